@@ -1,0 +1,2 @@
+pub mod Reserves
+pub mod Closures

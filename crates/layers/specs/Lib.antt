@@ -1,0 +1,4 @@
+pub mod Lowered
+pub mod Reserved
+pub mod Closed
+pub mod Soundness

@@ -1,0 +1,3 @@
+pub mod Wide
+pub mod Stands
+pub mod Soundness
