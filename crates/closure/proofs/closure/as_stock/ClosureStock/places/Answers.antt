@@ -1,0 +1,6 @@
+use borrow.Author.Needs.{needs}
+use Rattle.closure.proofs.Closures.{count-closing, capacity-closing}
+use Rattle.closure.proofs.closure.as_stock.ClosureStock.places.Needs as need
+
+pub returns : need.returns
+returns g c = search (needs, count-closing, capacity-closing)

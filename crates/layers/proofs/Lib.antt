@@ -1,2 +1,0 @@
-pub mod Reserves
-pub mod Closures

@@ -1,6 +1,0 @@
-use borrow.Author.Needs.{needs}
-use Rattle.layers.proofs.Closures.{count-closing, capacity-closing}
-use Rattle.layers.proofs.closure.as_stock.ClosureStock.give_back.Needs as need
-
-pub returns : need.returns
-returns g c = search (needs, count-closing, capacity-closing)

@@ -1,6 +1,0 @@
-use borrow.Author.Needs.{needs}
-use Rattle.layers.proofs.Reserves.{count-reserved, capacity-reserved}
-use Rattle.layers.proofs.reserve.as_stock.ReserveStock.used.Needs as need
-
-pub returns : need.returns
-returns g c = search (needs, count-reserved, capacity-reserved)

@@ -1,4 +1,0 @@
-pub mod Lowered
-pub mod Reserved
-pub mod Closed
-pub mod Soundness

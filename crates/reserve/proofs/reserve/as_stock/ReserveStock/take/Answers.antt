@@ -1,0 +1,6 @@
+use borrow.Author.Needs.{needs}
+use Rattle.reserve.proofs.Reserves.{count-reserved, capacity-reserved}
+use Rattle.reserve.proofs.reserve.as_stock.ReserveStock.take.Needs as need
+
+pub returns : need.returns
+returns g c = search (needs, count-reserved, capacity-reserved)
