@@ -37,7 +37,7 @@ impl<'a> Counted<'a> {
         ensures sized { λ r. ⌜ r .size ≡ size ⌝ }
     {
         clear(table, size.places());
-        Counted { table, size }
+        Counted::again(table, size)
     }
 
     // The stock over the table as it stands, with the capacities and uses that it holds.

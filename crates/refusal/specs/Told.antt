@@ -13,3 +13,8 @@ told-by told (Err e) = told e
 abbrev pub number-in : List ℕ → ℕ
 number-in [] = 0
 number-in (number ∷ values) = number
+
+-- its first value
+abbrev pub value-in : List ℕ → ℕ
+value-in [] = 0
+value-in (number ∷ values) = number-in values

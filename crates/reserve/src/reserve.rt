@@ -3,6 +3,7 @@ ghost use mathlib.Core.Path.{_≡_};
 ghost use denote.Ref.{now, name};
 ghost use Rattle.reserve.specs.Reserved.{left};
 use crate::percent::Percent;
+use stock::stock::Stock;
 
 pub mod as_stock;
 
@@ -12,7 +13,7 @@ pub struct Reserve<'b, S> {
     percent: Percent,
 }
 
-impl<'b, S> Reserve<'b, S> {
+impl<'b, S: Stock> Reserve<'b, S> {
     pub fn new(below: &'b mut S, percent: Percent) -> Reserve<'b, S>
         ensures holds { λ r. ⌜ now (r .below) ≡ now (below .entry) ⌝ }
         ensures lender { λ r. ⌜ name (r .below) ≡ name (below .entry) ⌝ }

@@ -8,7 +8,7 @@ use Rattle.std.specs.declared.result.Result.{Result}
 use Rattle.std.specs.declared.result.Result.the-variants.{Ok, Err}
 use Rattle.stock.specs.declared.fault.StockFault.{StockFault}
 use Rattle.stock.specs.declared.fault.StockFault.the-variants.{NoPlace, Full, Lacking}
-use Rattle.stock.specs.Meaning.{Meaning, count, capacity, used}
+use Rattle.stock.specs.Meaning.{Meaning, count, capacity, spare, used}
 
 abbrev pub exists : Meaning → ℕ → Bool
 exists m place = ltb place (count m)
@@ -30,6 +30,9 @@ capacity-answer m place = at-place m place (Ok (capacity m place))
 
 abbrev pub used-answer : Meaning → ℕ → Result ℕ StockFault
 used-answer m place = at-place m place (Ok (used m place))
+
+abbrev pub spare-answer : Meaning → ℕ → Result ℕ StockFault
+spare-answer m place = at-place m place (Ok (spare m place))
 
 abbrev pub take-answer : Meaning → ℕ → ℕ → Result (Unit {0}) StockFault
 take-answer m place n = at-place m place (cond (fits m place n) (Ok tt) (Err (Full place)))

@@ -1,7 +1,7 @@
 // The refusals of stocks and of making them.
 ghost use mathlib.Core.Path.{_≡_};
 ghost use Rattle.stock.specs.Faults.{told};
-ghost use Rattle.refusal.specs.Told.{number-in};
+ghost use Rattle.refusal.specs.Told.{number-in, value-in};
 
 #[derive(Clone, Copy, PartialEq, Eq, Debug)]
 pub enum StockFault {
@@ -25,6 +25,18 @@ impl StockFault {
             StockFault::Full(_) => 32,
             StockFault::Lacking(_) => 33,
             StockFault::TooLarge(_) => 34,
+        }
+    }
+
+    // The value that it returns: the place, or the figure.
+    pub fn value(self) -> usize
+        ensures { λ r. ⌜ r ≡ value-in (told self) ⌝ }
+    {
+        match self {
+            StockFault::NoPlace(place) => place,
+            StockFault::Full(place) => place,
+            StockFault::Lacking(place) => place,
+            StockFault::TooLarge(figure) => figure,
         }
     }
 }

@@ -5,5 +5,6 @@
 // refusal has; and it makes sizes, the one figure that the stocks with a table of their own need. It uses the crate
 // `refusal` only.
 pub mod fault;
+pub mod questions;
 pub mod size;
 pub mod stock;
