@@ -1,0 +1,4 @@
+pub mod Laws
+pub mod Ranked
+pub mod Amounts
+pub mod Fractions

@@ -1,0 +1,2 @@
+pub mod Evenly
+pub mod Bound
