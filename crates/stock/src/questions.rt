@@ -13,8 +13,5 @@ pub fn spare<S: Stock>(stock: &S, place: usize) -> Result<u16, StockFault>
 {
     let capacity = stock.capacity(place)?;
     let used = stock.used(place)?;
-    if used > capacity {
-        return Ok(0);
-    }
-    Ok(capacity - used)
+    Ok(capacity.saturating_sub(used))
 }
