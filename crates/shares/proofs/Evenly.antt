@@ -6,7 +6,8 @@ use Prim.Native.Nat.{ℕ, zero, suc, _*_, _/_, _≤_, _<_}
 use native.Mathlib.Omega.{arith}
 use lib.Dec.{eqb}
 use Rattle.std.proofs.shelf.Tests.{eqb-true, and-parts, cases-lt}
-use Rattle.shares.specs.Shares.{Exact, share-of, share-unit, largest-limit}
+use Rattle.net.specs.Largest.{largest-limit}
+use Rattle.shares.specs.Shares.{Exact, share-of, share-unit}
 
 abbrev evenly : ℕ → ℕ → Bool
 evenly unit zero = true

@@ -8,10 +8,6 @@ use lib.ListN.{length}
 abbrev pub share-unit : ℕ
 share-unit = 720720
 
--- the largest limit of a net
-abbrev pub largest-limit : ℕ
-largest-limit = 16
-
 -- what one waiting net of this limit adds
 abbrev pub share-of : ℕ → ℕ → ℕ
 share-of unit limit = unit / limit

@@ -1,9 +1,10 @@
 // Waiting shares: how much the nets that still wait for their buffers weigh on the sites of a tile. A share counts in
 // parts of a unit that every limit divides, so that no share is rounded. The crate promises that the share of a net is
 // the unit divided by its limit, that this is exact for every limit that a net can have, and that the share of a tile
-// is at most one unit for each net that waits there. It uses no other crate.
+// is at most one unit for each net that waits there. It uses the largest limit of a net.
 ghost use mathlib.Core.Path.{_≡_};
-ghost use Rattle.shares.specs.Shares.{Adds, At-most-one-each, Exact, largest-limit, share-of, share-unit};
+ghost use Rattle.net.specs.Largest.{largest-limit};
+ghost use Rattle.shares.specs.Shares.{Adds, At-most-one-each, Exact, share-of, share-unit};
 
 // The parts that make one use of a site.
 pub const SHARE_UNIT: u32 = 720_720;

@@ -1,16 +1,52 @@
 -- The worked examples, and what each asserts.
-use mathlib.Core.Path.{_≡_}
+use mathlib.Core.Bool.{true, false}
 use mathlib.Core.List.{List, [], _∷_}
+use mathlib.Core.Path.{_≡_}
 use Prim.Native.Nat.{ℕ}
-use Rattle.shares.specs.Shares.{share-unit}
+use lib.Dec.{lit≤}
 use Rattle.congestion.specs.Price.{congestion-price}
+use Rattle.grid.specs.declared.shape.Grid.{Grid}
+use Rattle.length_rule.specs.Legal.{Legal}
+use Rattle.net.specs.Proper.{Proper}
+use Rattle.net.specs.declared.records.record.Record.{Record}
+use Rattle.shares.specs.Shares.{share-unit}
 
 pub data Example : Type 0 where
   -- at this capacity, use and waiting share, one site costs so much congestion
   site-price : (capacity used share price : ℕ) → Example
+  -- on this grid, with this limit and these spare sites along the route, the marks are a legal plan
+  legal : (grid : Grid) (limit : ℕ) (route : List Record) (spare marks : List ℕ) → Example
+  -- they are not
+  not-legal : (grid : Grid) (limit : ℕ) (route : List Record) (spare marks : List ℕ) → Example
+  -- no marks at all are
+  none-legal : (grid : Grid) (limit : ℕ) (route : List Record) (spare : List ℕ) → Example
 
 abbrev pub Holds : Example → Type 0
 Holds (site-price capacity used share price) = congestion-price share-unit capacity used share ≡ price
+Holds (legal g limit rs spare ms) = Proper g rs × Legal limit rs spare ms
+Holds (not-legal g limit rs spare ms) = Proper g rs × (Legal limit rs spare ms → ⊥)
+Holds (none-legal g limit rs spare) = Proper g rs × ((ms : List ℕ) → Legal limit rs spare ms → ⊥)
+
+-- a record without a sink, and one with
+abbrev pub way : (tile parent : ℕ) → Record
+way tile parent = record { tile = tile; parent = parent; sink = false }
+
+abbrev pub sink : (tile parent : ℕ) → Record
+sink tile parent = record { tile = tile; parent = parent; sink = true }
+
+-- four tiles in a row: the driver in the second has a branch of two tiles to the right and one of one tile to the left
+abbrev pub strip : Grid
+strip = record { rows = 1; columns = 4; «some_rows» = lit≤ tt; «rows_fit» = lit≤ tt; «some_columns» = lit≤ tt; «columns_fit» = lit≤ tt }
+
+abbrev pub branches : List Record
+branches = way 1 0 ∷ way 2 0 ∷ sink 3 1 ∷ sink 0 0 ∷ []
+
+-- three rows of three tiles: the driver left of the middle, the join in the middle, a sink above it and one below
+abbrev pub square : Grid
+square = record { rows = 3; columns = 3; «some_rows» = lit≤ tt; «rows_fit» = lit≤ tt; «some_columns» = lit≤ tt; «columns_fit» = lit≤ tt }
+
+abbrev pub join : List Record
+join = way 3 0 ∷ way 4 0 ∷ sink 1 1 ∷ sink 7 1 ∷ []
 
 abbrev pub examples : List Example
 examples =
@@ -18,4 +54,9 @@ examples =
     ∷ site-price 5 4 2594592 8600
     ∷ site-price 12 2 1441440 500
     ∷ site-price 5 0 2882880 1000
+    ∷ legal strip 3 branches (0 ∷ 0 ∷ 0 ∷ 0 ∷ []) (0 ∷ 0 ∷ 0 ∷ 0 ∷ [])
+    ∷ not-legal strip 2 branches (0 ∷ 0 ∷ 0 ∷ 0 ∷ []) (0 ∷ 0 ∷ 0 ∷ 0 ∷ [])
+    ∷ legal square 1 join (0 ∷ 2 ∷ 0 ∷ 0 ∷ []) (0 ∷ 0 ∷ 1 ∷ 1 ∷ [])
+    ∷ none-legal square 1 join (0 ∷ 1 ∷ 0 ∷ 0 ∷ [])
+    ∷ legal square 2 join (0 ∷ 1 ∷ 0 ∷ 0 ∷ []) (0 ∷ 2 ∷ 0 ∷ 0 ∷ [])
     ∷ []

@@ -2,7 +2,8 @@ use mathlib.Core.Path.{_≡_, sym, ap, subst}
 use Prim.Native.Nat.{ℕ, _+_, _*_}
 use Rattle.shares.proofs.Bound.{bounded}
 use Rattle.shares.proofs.Evenly.{exact}
-use Rattle.shares.specs.Shares.{share-unit, largest-limit, Exact, waiting-share}
+use Rattle.net.specs.Largest.{largest-limit}
+use Rattle.shares.specs.Shares.{share-unit, Exact, waiting-share}
 use Rattle.shares.proofs.share_of.Needs as need
 
 pub returns : need.returns

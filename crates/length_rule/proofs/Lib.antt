@@ -1,0 +1,4 @@
+pub mod Sums
+pub mod Unique
+pub mod Accepts
+pub mod Local

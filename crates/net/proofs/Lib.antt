@@ -1,0 +1,3 @@
+pub mod Firsts
+pub mod Faults
+pub mod Properly
