@@ -1,1 +1,2 @@
-mod Shown
+pub mod CheapestStrip
+pub mod Shown

@@ -17,7 +17,8 @@ use Rattle.length_rule.specs.Legal.{Legal}
 use Rattle.length_rule.specs.Marks.{mark-at}
 use Rattle.length_rule.specs.Refusals.{plan-fault}
 use Rattle.length_rule.proofs.Accepts.{legal-if, none-if}
-use Rattle.worked.specs.Examples.{Holds, examples, branches, join, strip, square}
+use Rattle.worked.specs.Examples.{Holds, examples, branches, join, long-strip, path, strip, square}
+use Rattle.worked.proofs.CheapestStrip.{path-cheapest}
 
 -- what the check refuses is not legal
 refused : (limit : ℕ) (rs : List Record) (spare ms : List ℕ) → 1 ≤ length rs → nothing-wrong (plan-fault limit rs spare ms) ≡ false → Legal limit rs spare ms → ⊥
@@ -62,7 +63,7 @@ no-plan (a ∷ (b ∷ (c ∷ (d ∷ (x ∷ xs))))) e m z = absurd (omega arith)
 none-of-join : (ms : List ℕ) → Legal 1 join one-spare ms → ⊥
 none-of-join ms l = refused 1 join one-spare ms (omega arith) (no-plan ms (l .plan .each) (l .plan .known) (l .plan .driver)) l
 
-plans : All Holds (drop 4 examples)
+plans : All Holds (drop 5 examples)
 unfolding one-spare
 plans = (
   (proper-if strip branches refl, legal-if 3 branches (0 ∷ 0 ∷ 0 ∷ 0 ∷ []) (0 ∷ 0 ∷ 0 ∷ 0 ∷ []) (omega arith) refl),
@@ -79,4 +80,4 @@ plans = (
 )
 
 pub shown : All Holds examples
-shown = (refl, (refl, (refl, (refl, plans))))
+shown = (refl, (refl, (refl, (refl, ((proper-if long-strip path refl, path-cheapest), plans)))))

@@ -6,7 +6,7 @@ ghost use lib.ListN.{length};
 ghost use Rattle.std.specs.shelf.Lists.{All};
 ghost use Rattle.worked.specs.Examples.{Holds, examples};
 
-const EXAMPLES: usize = 9;
+const EXAMPLES: usize = 10;
 
 // How many worked examples there are. Each of them holds.
 pub fn worked_examples() -> usize

@@ -1,0 +1,4 @@
+pub mod Decided
+pub mod Accepted
+pub mod Books
+pub mod Sample

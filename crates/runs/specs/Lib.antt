@@ -1,0 +1,11 @@
+pub mod Worlds
+pub mod Plans
+pub mod Tables
+pub mod Refusals
+pub mod Calls
+pub mod Histories
+pub mod Runs
+pub mod Law
+pub mod Exactly
+pub mod Facts
+pub mod Sample

@@ -1,0 +1,14 @@
+pub mod Infinite
+pub mod Costs
+pub mod Best
+pub mod Gather
+pub mod Climb
+pub mod Induction
+pub mod Joined
+pub mod Local
+pub mod Rebuild
+pub mod Branches
+pub mod Handed
+pub mod Answer
+pub mod Lengths
+pub mod Arrays
