@@ -21,9 +21,7 @@ impl<'a> Counted<'a> {
     fn count(&self) -> usize
         ensures { λ r. ⌜ r ≡ count (means (now (self .entry))) ⌝ }
     {
-        let places = self.table.len();
-        let most = self.size.places();
-        if places < most { places } else { most }
+        self.table.len().min(self.size.places())
     }
 
     // What stands at a place, if there is such a place.
