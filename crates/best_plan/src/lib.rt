@@ -3,6 +3,8 @@
 // less than they do, that where the search chooses none no plan is legal, and that nothing but the net, its spare sites and
 // its prices where a site is spare decides what is chosen. Nothing here runs. It uses the length
 // rule's definitions and the theory of the search.
+#![tactic(auto)]
+
 ghost use Rattle.best_plan.specs.Cheapest.{PlansStand, ChoiceAlone};
 
 use cost::Cost;

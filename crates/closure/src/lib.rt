@@ -2,5 +2,7 @@
 //
 // It stands on any stock, is one itself, and gives the stock below back with only its uses changed. The crate uses the
 // crates `refusal`, `stock` and `layer`.
+#![tactic(auto)]
+
 pub mod closure;
 mod marks;

@@ -2,6 +2,8 @@
 // proved once for every kind that implements them. Each interface has its meaning as ghost members and its laws beside
 // them; the pair promises that it keeps the laws of a cost kind whatever its two kinds are, if the first is strict. The
 // crate uses the laws' definitions and theorems only.
+#![tactic(auto)]
+
 pub mod costs;
 pub mod pair;
 pub mod pair_cost;

@@ -2,5 +2,7 @@
 //
 // A stock made over a table answers and changes exactly as the trait says, and the table then holds what the stock
 // means, so that the stock can be made again over it. It uses the crates `refusal` and `stock`.
+#![tactic(auto)]
+
 pub mod counted;
 pub mod place;

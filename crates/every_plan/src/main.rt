@@ -2,6 +2,8 @@
 // says how many answers were compared and how many differed. Its contracts say what the plan of each code, the cheapest
 // of them all, each verdict and the whole tally are; nothing is promised of what is printed. It uses the search, the check
 // of a plan made by hand, the cost of a plan and the kinds of cost.
+#![tactic(auto)]
+
 mod comparing;
 mod crowds;
 mod shapes;

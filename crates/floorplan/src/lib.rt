@@ -2,4 +2,6 @@
 // a sealed one, which allows only planning, filing, withdrawing and asking. A state holds plain numbers, is moved and
 // never copied; stocks and tables are lent at each call. Fields are private: no host makes a state. The crate promises
 // how each state is a world of the law on runs, and that sealing goes on with every run. It uses the law's statement.
+#![tactic(auto)]
+
 pub mod states;

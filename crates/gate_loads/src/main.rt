@@ -1,5 +1,7 @@
 // The gates of a few small nets: for each plan, every gate with the tile that it stands in and the length that it
 // drives, and what the check says of the plan, so that a person can follow the length rule by eye.
+#![tactic(auto)]
+
 use grid::shape::Grid;
 use hand_plan::check_plan;
 use length_rule::{Gate, PlanFault};

@@ -1,4 +1,6 @@
 // Figures of grids: one tile, a strip of four, two rows of three, and the corners of the largest grid.
+#![tactic(auto)]
+
 #[cfg(test)]
 mod tests {
     use grid::shape::{Grid, GridFault};

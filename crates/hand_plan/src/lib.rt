@@ -1,6 +1,8 @@
 // The check of a plan made by hand, against the length rule and the spare sites along its route. It promises that a plan
 // is accepted exactly where it is legal, and which refusal every other gets. It uses nets, the length rule and the tables
 // of a plan.
+#![tactic(auto)]
+
 ghost use Rattle.std.specs.Prelude.{◌≡◌, ◌<◌, length, is_ok, Decides, slice_index};
 ghost use Rattle.refusal.specs.Told.{told_by};
 ghost use Rattle.net.specs.Checked.{records_of};

@@ -2,6 +2,8 @@
 // capacities of its own, none larger.
 //
 // The crate says what such a layer means and how it takes. It uses the crates `refusal` and `stock`.
+#![tactic(auto)]
+
 ghost use Rattle.std.specs.Prelude.{◌≡◌};
 ghost use Rattle.layer.specs.Lowered.{taken_after, taken_answer, taken_refusal};
 ghost use Rattle.refusal.specs.Told.{told_by};

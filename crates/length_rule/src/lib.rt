@@ -2,6 +2,7 @@
 // plans are legal and what a plan costs. The definitions stand in specs/, each reading as its rule does. The crate
 // promises that the lengths are the rule's and no others, that the refusals of a plan made by hand leave exactly the
 // legal plans, and what a tile needs. It uses nets and their routes.
+#![tactic(auto)]
 
 // A gate of a plan: the length that it drives, and the index in whose tile it stands.
 #[derive(Clone, Copy, PartialEq, Eq, Debug)]

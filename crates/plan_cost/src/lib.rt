@@ -1,6 +1,8 @@
 // What a plan costs, in any kind of cost: tile by tile, the sum, from nothing, of the prices of the sites that the plan
 // takes there. Prices are lent along the route, one for each index, and there is none where no site is spare. The crate
 // promises the sum by equality, for every kind of cost. It uses plans and the interface of a cost kind.
+#![tactic(auto)]
+
 ghost use Rattle.std.specs.Prelude.{◌≡◌};
 ghost use Rattle.net.specs.Checked.{records_of};
 ghost use Rattle.length_rule.specs.Costs.{price_at, kth_price, tile_cost, plan_cost};

@@ -1,4 +1,6 @@
 // Figures of limits, routes and plans: each refusal, and of two that hold at once the one that is told.
+#![tactic(auto)]
+
 #[cfg(test)]
 mod tests {
     use grid::shape::Grid;

@@ -1,6 +1,8 @@
 // Facts about checked routes, each on the contract of a question about a route: the boundaries that a route crosses are
 // all different, an index has at most four children and past the driver at most three, and every index leads back to the
 // driver through earlier indices. The crate uses the grid, nets and the children of an index.
+#![tactic(auto)]
+
 ghost use Rattle.std.specs.Prelude.{◌≡◌};
 ghost use Rattle.net.specs.Checked.{records_of};
 ghost use Rattle.route_facts.specs.Facts.{crossing, CrossesEach, CrossingsApart, child_count, FewChildren, parent_told, LeadsBackEach};

@@ -2,6 +2,8 @@
 // tell what its calls were handed and accepted, and a hand plan is accepted exactly when it is legal. From this and one
 // call of planning that keeps its relation, at any pricing, the whole law follows; and what the search finds keeps that
 // relation. Nothing here runs. It uses the statement in `runs`, what that uses, and the search's theorem.
+#![tactic(auto)]
+
 ghost use Rattle.runs.specs.Histories.{History};
 ghost use Rattle.runs.specs.Law.{HandPlansExact, TablesStayTrue};
 ghost use Rattle.runs.specs.Plans.{Choice, prices_of};

@@ -3,6 +3,8 @@
 // accepted, runs, the true book, and the law. The crate promises facts that show what the statement says: that the
 // refusals leave exactly what may be accepted, which books are true and which false, that each call decides its answer,
 // and that runs exist. Nothing here runs. It uses the definitions of grids, stocks, costs, nets, plans and faults.
+#![tactic(auto)]
+
 ghost use Rattle.std.specs.Prelude.{◌≡◌, ℕ, [], Option as Maybe, Result as Answer};
 ghost use Rattle.net.specs.Lowest.{fault_of};
 ghost use Rattle.floor_types.specs.declared.faults.PlanningFault.{PlanningFault};

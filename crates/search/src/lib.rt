@@ -3,6 +3,8 @@
 // answer is right by the length rule, that the same net, spare sites and prices of tiles with a spare site always give the
 // same answer and marks, and which calls it refuses. It allocates nothing. It uses nets, the length rule, the interface of
 // cost kinds and the theory of the search.
+#![tactic(auto)]
+
 mod families;
 pub mod fault;
 mod finish;

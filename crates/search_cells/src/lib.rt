@@ -1,6 +1,7 @@
 // What the buffer search keeps: in lent work cells costs with the choices that lead to them, and in tables of its own the
 // children of each index. The crate has the types, what tables of them mean in specs/, and the steps from one table to the
 // next in proofs/; it runs nothing. It uses the theory of the search.
+#![tactic(auto)]
 
 // What is chosen for one child: whether it has a head buffer, and the length that enters it.
 #[derive(Clone, Copy)]

@@ -1,6 +1,8 @@
 // How fast nets are searched: a strip, a comb and a tree grown at random, of 256 records each, by count and then
 // congestion. With no argument each net is searched once at the largest limit, and whether a plan is found is told. With
 // a number of searches, each net is searched so often at several limits, and the nets searched in a second are told.
+#![tactic(auto)]
+
 mod crowd;
 mod figures;
 mod patterns;

@@ -2,6 +2,8 @@
 // parts of a unit that every limit divides, so that no share is rounded. The crate promises that the share of a net is
 // the unit divided by its limit, that this is exact for every limit that a net can have, and that the share of a tile
 // is at most one unit for each net that waits there. It uses the largest limit of a net.
+#![tactic(auto)]
+
 ghost use Rattle.std.specs.Prelude.{◌≡◌};
 ghost use Rattle.net.specs.Largest.{largest_limit};
 ghost use Rattle.shares.specs.Shares.{Adds, AtMostOneEach, Exact, share_of, share_unit};

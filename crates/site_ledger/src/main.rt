@@ -1,5 +1,7 @@
 // A ledger of buffer sites, from start to end: a grid and a counted site stock, a reserve over it and a closure over
 // that; sites are taken and given back, and each reason to refuse is met once.
+#![tactic(auto)]
+
 use anyhow::anyhow;
 use closure::closure::Closure;
 use counted::counted::Counted;

@@ -4,6 +4,8 @@
 // The crate says what a stock means, what each of its calls answers and leaves, and which number and values each
 // refusal has; and it makes sizes, the one figure that the stocks with a table of their own need. It uses the crate
 // `refusal` only.
+#![tactic(auto)]
+
 pub mod fault;
 pub mod questions;
 pub mod size;

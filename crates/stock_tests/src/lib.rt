@@ -1,5 +1,7 @@
 // Figures of stocks: what a reserve leaves, a closed place with a use, the last place and one past it, and taking
 // nothing where nothing is left.
+#![tactic(auto)]
+
 #[cfg(test)]
 mod tests {
     use closure::closure::Closure;
