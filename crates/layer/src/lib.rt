@@ -20,10 +20,10 @@ pub fn take_below<S: Stock>(
     place: usize,
     n: u16,
 ) -> Result<(), StockFault>
-    ensures answer { result ≡ taken_answer capacity (meaning below.old) place n }
-    ensures told { told_by told result ≡ taken_refusal capacity (meaning below.old) place n }
-    ensures after { meaning below.new ≡ taken_after capacity (meaning below.old) place n }
-    ensures kept { fixed below.new ≡ fixed below.old }
+    ensures answer { result ≡ taken_answer capacity (S.meaning below.old) place n }
+    ensures told { told_by told result ≡ taken_refusal capacity (S.meaning below.old) place n }
+    ensures after { S.meaning below.new ≡ taken_after capacity (S.meaning below.old) place n }
+    ensures kept { S.fixed below.new ≡ S.fixed below.old }
 {
     let used = below.used(place)?;
     if n > capacity || used > capacity - n {

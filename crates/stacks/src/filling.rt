@@ -11,10 +11,10 @@ use stock::stock::Stock;
 
 // Answers how much was taken: nothing where the use passes the capacity.
 pub fn take_spare<S: Stock>(stock: &mut S, place: usize) -> Result<u16, StockFault>
-    ensures answer { result ≡ spare_answer (meaning stock.old) place }
-    ensures told { told_by told result ≡ question_refusal (meaning stock.old) place }
-    ensures after { meaning stock.new ≡ filled (meaning stock.old) place }
-    ensures kept { fixed stock.new ≡ fixed stock.old }
+    ensures answer { result ≡ spare_answer (S.meaning stock.old) place }
+    ensures told { told_by told result ≡ question_refusal (S.meaning stock.old) place }
+    ensures after { S.meaning stock.new ≡ filled (S.meaning stock.old) place }
+    ensures kept { S.fixed stock.new ≡ S.fixed stock.old }
 {
     let spare = spare(stock, place)?;
     if spare == 0 {

@@ -23,9 +23,9 @@ pub fn closure_over_reserve<S: Stock>(
     closed: usize,
     place: usize,
 ) -> Result<u16, StockFault>
-    ensures answer { result ≡ spare_answer (closure_on_reserve percent.value closed (meaning stock.old)) place }
-    ensures after { meaning stock.new ≡ under (meaning stock.old) (filled (closure_on_reserve percent.value closed (meaning stock.old)) place) }
-    ensures kept { fixed stock.new ≡ fixed stock.old }
+    ensures answer { result ≡ spare_answer (closure_on_reserve percent.value closed (S.meaning stock.old)) place }
+    ensures after { S.meaning stock.new ≡ under (S.meaning stock.old) (filled (closure_on_reserve percent.value closed (S.meaning stock.old)) place) }
+    ensures kept { S.fixed stock.new ≡ S.fixed stock.old }
 {
     let mut reserve = Reserve::new(stock, percent);
     through_closure(&mut reserve, closed, place)
@@ -38,9 +38,9 @@ pub fn reserve_over_closure<S: Stock>(
     closed: usize,
     place: usize,
 ) -> Result<u16, StockFault>
-    ensures answer { result ≡ spare_answer (reserve_on_closure percent.value closed (meaning stock.old)) place }
-    ensures after { meaning stock.new ≡ under (meaning stock.old) (filled (reserve_on_closure percent.value closed (meaning stock.old)) place) }
-    ensures kept { fixed stock.new ≡ fixed stock.old }
+    ensures answer { result ≡ spare_answer (reserve_on_closure percent.value closed (S.meaning stock.old)) place }
+    ensures after { S.meaning stock.new ≡ under (S.meaning stock.old) (filled (reserve_on_closure percent.value closed (S.meaning stock.old)) place) }
+    ensures kept { S.fixed stock.new ≡ S.fixed stock.old }
 {
     let mut closure = close_one(stock, closed);
     through_reserve(&mut closure, percent, place)

@@ -19,9 +19,9 @@ pub fn through_reserve<S: Stock>(
     percent: Percent,
     place: usize,
 ) -> Result<u16, StockFault>
-    ensures answer { result ≡ spare_answer (reserved percent.value (meaning stock.old)) place }
-    ensures after { meaning stock.new ≡ under (meaning stock.old) (filled (reserved percent.value (meaning stock.old)) place) }
-    ensures kept { fixed stock.new ≡ fixed stock.old }
+    ensures answer { result ≡ spare_answer (reserved percent.value (S.meaning stock.old)) place }
+    ensures after { S.meaning stock.new ≡ under (S.meaning stock.old) (filled (reserved percent.value (S.meaning stock.old)) place) }
+    ensures kept { S.fixed stock.new ≡ S.fixed stock.old }
 {
     let mut reserve = Reserve::new(stock, percent);
     take_spare(&mut reserve, place)
@@ -31,7 +31,7 @@ pub fn through_reserve<S: Stock>(
 pub fn close_one<'b, S: Stock>(stock: &'b mut S, closed: usize) -> Closure<'b, S>
     ensures holds { result.below.now ≡ stock.old }
     ensures lender { result.below.ghost_name ≡ stock.entry.ghost_name }
-    ensures marked { result.marks.closed ≡ one_closed (meaning stock.old) closed }
+    ensures marked { result.marks.closed ≡ one_closed (S.meaning stock.old) closed }
 {
     let mut closure = Closure::new(stock);
     let _ = closure.close(closed);
@@ -44,9 +44,9 @@ pub fn through_closure<S: Stock>(
     closed: usize,
     place: usize,
 ) -> Result<u16, StockFault>
-    ensures answer { result ≡ spare_answer (closed_over closed (meaning stock.old)) place }
-    ensures after { meaning stock.new ≡ under (meaning stock.old) (filled (closed_over closed (meaning stock.old)) place) }
-    ensures kept { fixed stock.new ≡ fixed stock.old }
+    ensures answer { result ≡ spare_answer (closed_over closed (S.meaning stock.old)) place }
+    ensures after { S.meaning stock.new ≡ under (S.meaning stock.old) (filled (closed_over closed (S.meaning stock.old)) place) }
+    ensures kept { S.fixed stock.new ≡ S.fixed stock.old }
 {
     let mut closure = close_one(stock, closed);
     take_spare(&mut closure, place)

@@ -9,8 +9,8 @@ use crate::stock::Stock;
 
 // What is left to take at a place: nothing where the use passes the capacity.
 pub fn spare<S: Stock>(stock: &S, place: usize) -> Result<u16, StockFault>
-    ensures answer { result ≡ spare_answer (meaning stock.now) place }
-    ensures told { told_by told result ≡ question_refusal (meaning stock.now) place }
+    ensures answer { result ≡ spare_answer (S.meaning stock.now) place }
+    ensures told { told_by told result ≡ question_refusal (S.meaning stock.now) place }
 {
     let capacity = stock.capacity(place)?;
     let used = stock.used(place)?;

@@ -2,8 +2,8 @@ use Rattle.std.proofs.Common.{arith, rules}
 use Rattle.counted.proofs.Tables.{within, capacity_table, used_table}
 use Rattle.counted.proofs.counted.Counted.at.Goals as goal
 
-pub offset-bounds-self-place : goal.offset-bounds-self-place
-offset-bounds-self-place c =
+pub offset_bounds-self-place : goal.offset_bounds-self-place
+offset_bounds-self-place c =
     let i = within c.args.self.now.size.places c.args.self.now.table.now c.args.place (omega (arith, c.count.ensures)) in search rules
 
 pub bounds-self-place : goal.bounds-self-place

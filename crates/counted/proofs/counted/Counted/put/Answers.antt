@@ -2,8 +2,8 @@ use Rattle.std.proofs.Common.{refl, arith, drop-set-lt, rules, ltb-true}
 use Rattle.counted.proofs.Tables.{within, table_after}
 use Rattle.counted.proofs.counted.Counted.put.Goals as goal
 
-pub offset-bounds-self-place : goal.offset-bounds-self-place
-offset-bounds-self-place c =
+pub offset_bounds-self-place : goal.offset_bounds-self-place
+offset_bounds-self-place c =
     let i = within c.args.self.now.size.places c.args.self.now.table.now c.args.place (ltb-true _ _ c.requires) in search rules
 
 pub bounds-self-place : goal.bounds-self-place

@@ -11,7 +11,7 @@ pub returns-then-not-parents-i : goal.returns-then-not-parents-i
 returns-then-not-parents-i c =
     let rs = c.args.records.now in
     let i = c.loop-i.i in
-    let wrong : end_fault rs i ≡ Some (Useless i) = ap (λ (b : Bool). unless b (Useless i)) (or_from (sink_at rs i) (has_child rs i) c.if-not-records-i.true (sym (c.mark-parents-parents.ensures.1 i (omega arith)) ∙ c.if-not-parents-i.true)) in
+    let wrong : end_fault rs i ≡ Some (Useless i) = ap (λ (b : Bool). unless b (Useless i)) (or_from (sink_at rs i) (has_child rs i) c.if-not-records-i.true (sym (c.mark_parents-parents.ensures.1 i (omega arith)) ∙ c.if-not-parents-i.true)) in
     sym (lowest_found (end_fault rs) i (length rs) (Useless i) c.loop-i.invariant wrong c.loop-i-test.true)
 
 pub loop-i-preserved : goal.loop-i-preserved
@@ -21,6 +21,6 @@ loop-i-preserved c =
     lowest_more (end_fault rs) i c.loop-i.invariant
     (unless_clear (sink_at rs i || has_child rs i) (Useless i)
     (elim c.else-not-records-i.branch [
-      | else-not-records-i-via-then-not-records-i+else-not-parents-i w ↦ or_right (sink_at rs i) (has_child rs i) (sym (c.mark-parents-parents.ensures.1 i (omega arith)) ∙ w.if-not-parents-i.false)
+      | else-not-records-i-via-then-not-records-i+else-not-parents-i w ↦ or_right (sink_at rs i) (has_child rs i) (sym (c.mark_parents-parents.ensures.1 i (omega arith)) ∙ w.if-not-parents-i.false)
       | else-not-records-i-via-else-not-records-i w ↦ or_left (sink_at rs i) (has_child rs i) w.if-not-records-i.false
     ]))

@@ -2,5 +2,5 @@ use Rattle.std.proofs.Common.{◌≤◌, sym, refl, subst, zero-le}
 use Rattle.open_stock.proofs.Small.{none_at}
 use Rattle.open_stock.proofs.uses.Uses.none.Goals as goal
 
-pub invariant-of-result : goal.invariant-of-result
-invariant-of-result c = (refl, ((λ place. subst (λ n. n ≤ 65535) (sym (none_at 8192 place)) zero-le), tt))
+pub invariant_of-result : goal.invariant_of-result
+invariant_of-result c = (refl, ((λ place. subst (λ n. n ≤ 65535) (sym (none_at 8192 place)) zero-le), tt))

@@ -3,8 +3,8 @@ use Rattle.std.proofs.lemmas.List.{set_past}
 use Rattle.open_stock.proofs.Small.{small_set}
 use Rattle.open_stock.proofs.uses.Uses.put.Goals as goal
 
-pub invariant-of-self : goal.invariant-of-self
-invariant-of-self c = (
+pub invariant_of-self : goal.invariant_of-self
+invariant_of-self c = (
   length-set c.args.self.now.table c.args.place c.args.used ∙ c.args.self.now.each,
   (small_set c.args.self.now.table 65535 c.args.place c.args.used c.args.self.now.small (omega arith), tt),
 )
