@@ -7,4 +7,4 @@ pub returns : goal.returns
 returns c =
     let r = c.args.route.now in
     let proper = proper_if r.grid (records_of r) r.checked in
-    record { answer = c.crossing-told.ensures; each = crosses_each r.grid (records_of r) proper; apart = crossings_apart r.grid (records_of r) proper }
+    record { answer = c.crossing_told.ensures; each = crosses_each r.grid (records_of r) proper; apart = crossings_apart r.grid (records_of r) proper }

@@ -6,4 +6,4 @@ use Rattle.route_facts.proofs.parent.Goals as goal
 pub returns : goal.returns
 returns c =
     let r = c.args.route.now in
-    record { answer = c.parent-told.ensures; back = leads_back r.grid (records_of r) (proper_if r.grid (records_of r) r.checked) }
+    record { answer = c.parent_told.ensures; back = leads_back r.grid (records_of r) (proper_if r.grid (records_of r) r.checked) }

@@ -17,11 +17,11 @@ loop-index-init c =
     let proper = proper_if c.args.route.now.grid rs (routed c.args.route.now c.args.route.now.grid rs refl c.records-records.ensures) in
     (start c.args.route.now.grid rs proper c.args.marks.now, proper.some)
 
-pub slice-bounds-pass-up-end : goal.slice-bounds-pass-up-end
-slice-bounds-pass-up-end c = sym c.loop-index.invariant.0.size
+pub slice_bounds-pass_up-end : goal.slice_bounds-pass_up-end
+slice_bounds-pass_up-end c = sym c.loop-index.invariant.0.size
 
-pub pass-up-requires : goal.pass-up-requires
-pass-up-requires c =
+pub pass_up-requires : goal.pass_up-requires
+pass_up-requires c =
     let one : c.loop-index.index ≡ (c.loop-index.index - 1) + 1 = omega arith in
     record {
       routed = routed c.args.route.now c.grid.result c.records-records.result.now c.grid.ensures c.records-records.ensures;
@@ -31,7 +31,7 @@ pass-up-requires c =
     }
 
 pub loop-index-preserved : goal.loop-index-preserved
-loop-index-preserved c = (c.pass-up.ensures, omega arith)
+loop-index-preserved c = (c.pass_up.ensures, omega arith)
 
 pub returns : goal.returns
 returns c =

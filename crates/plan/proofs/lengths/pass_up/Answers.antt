@@ -7,7 +7,7 @@ use Rattle.plan.proofs.Walking.{small, step, up_small}
 use Rattle.plan.proofs.lengths.pass_up.Goals as goal
 
 passes_up : (c : goal.After-slice-known-3·1) → c.passed-passes.result ≡ cond (head_at c.args.marks.now c.args.index) 0 (1 + cond (trunk_at c.args.marks.now c.args.index) 0 (get_or c.args.lengths.now c.args.index 0))
-passes_up c = c.passed-passes.ensures ∙ ap (λ (m : ℕ). cond (has_head m) 0 (1 + cond (has_trunk m) 0 (get_or c.args.lengths.now c.args.index 0))) c.mark-at.ensures
+passes_up c = c.passed-passes.ensures ∙ ap (λ (m : ℕ). cond (has_head m) 0 (1 + cond (has_trunk m) 0 (get_or c.args.lengths.now c.args.index 0))) c.mark_at.ensures
 
 pub passed-passes-requires : goal.passed-passes-requires
 passed-passes-requires c = omega (arith, small c.args.grid c.args.records.now (proper_if c.args.grid c.args.records.now c.requires.routed) c.args.marks.now c.args.index c.args.lengths.now c.requires.later c.requires.within c.requires.walked)
@@ -17,8 +17,8 @@ bounds-lengths-parent c =
     let proper = proper_if c.args.grid c.args.records.now c.requires.routed in
     omega (arith, proper.earlier c.args.index c.requires.later c.requires.within, proper.not_many, c.requires.walked.size)
 
-pub overflow-add-lengths : goal.overflow-add-lengths
-overflow-add-lengths c =
+pub overflow_add-lengths : goal.overflow_add-lengths
+overflow_add-lengths c =
     let proper = proper_if c.args.grid c.args.records.now c.requires.routed in
     omega (arith, passes_up c, up_small c.args.grid c.args.records.now proper c.args.marks.now c.args.index c.args.lengths.now c.requires.later c.requires.within c.requires.walked, small c.args.grid c.args.records.now proper c.args.marks.now c.args.index c.args.lengths.now c.requires.later c.requires.within c.requires.walked)
 

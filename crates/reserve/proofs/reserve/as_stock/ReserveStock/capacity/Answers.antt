@@ -5,5 +5,5 @@ use Rattle.reserve.proofs.reserve.as_stock.ReserveStock.capacity.Goals as goal
 pub returns : goal.returns
 returns g c = search (rules, count_reserved, capacity_reserved)
 
-pub returns-in-err-capacity : goal.returns-in-err-capacity
-returns-in-err-capacity g c = search (rules, count_reserved, capacity_reserved)
+pub returns-in_err-capacity : goal.returns-in_err-capacity
+returns-in_err-capacity g c = search (rules, count_reserved, capacity_reserved)
