@@ -11,8 +11,8 @@ use Rattle.length_rule.specs.Refusals.{site_fault}
 use Rattle.plan.proofs.Tallying.{need_told}
 use Rattle.hand_plan.proofs.first_site_fault.Goals as wants
 
-pub returns_then_needed_index : wants.returns_then_needed_index
-returns_then_needed_index c =
+pub returns-then-needed-index : wants.returns-then-needed-index
+returns-then-needed-index c =
     let r = c.args.route.now in
     let rs = records_of r in
     let ms = c.args.marks.now in
@@ -23,8 +23,8 @@ returns_then_needed_index c =
     let wrong : site_fault rs spare ms i ≡ Some (Sites i) = ap (λ (b : Bool). unless b (Sites i)) (lt-leb (need rs ms i) (spare_at spare i) more) in
     sym (lowest_found (site_fault rs spare ms) i (length rs) (Sites i) c.loop-index.invariant wrong here)
 
-pub loop_index_again : wants.loop_index_again
-loop_index_again c =
+pub loop-index-preserved : wants.loop-index-preserved
+loop-index-preserved c =
     let r = c.args.route.now in
     let rs = records_of r in
     let ms = c.args.marks.now in

@@ -5,8 +5,8 @@ use Rattle.length_rule.specs.Gates.{need}
 use Rattle.plan.proofs.Tallying.{need_told}
 use Rattle.plan_cost.proofs.plan_cost.Goals as wants
 
-pub loop_index_again : wants.loop_index_again
-loop_index_again g c =
+pub loop-index-preserved : wants.loop-index-preserved
+loop-index-preserved g c =
     let m = g.P.Cost in
     let r = c.args.route.now in
     let rs = records_of r in

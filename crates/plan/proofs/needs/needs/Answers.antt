@@ -8,8 +8,8 @@ use Rattle.plan.specs.Tally.{Tallied}
 use Rattle.plan.proofs.Tallying.{tallied_none, tallied_all}
 use Rattle.plan.proofs.needs.needs.Goals as wants
 
-pub loop_index_holds : wants.loop_index_holds
-loop_index_holds c = tallied_none c.records-records.result.now c.args.marks.now
+pub loop-index-init : wants.loop-index-init
+loop-index-init c = tallied_none c.records-records.result.now c.args.marks.now
 
 pub returns : wants.returns
 returns c =
