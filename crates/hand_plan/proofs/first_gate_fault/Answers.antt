@@ -9,8 +9,8 @@ use Rattle.length_rule.specs.Lengths.{hanging}
 use Rattle.length_rule.specs.Refusals.{gate_fault}
 use Rattle.hand_plan.proofs.first_gate_fault.Goals as goal
 
-pub gate-fault-fault-requires : goal.gate-fault-fault-requires
-gate-fault-fault-requires c =
+pub gate_fault-fault-requires : goal.gate_fault-fault-requires
+gate_fault-fault-requires c =
     let rs = records_of c.args.route.now in
     let ms = c.args.marks.now in
     let proper = proper_if c.args.route.now.grid rs c.args.route.now.checked in
@@ -24,12 +24,12 @@ gate-fault-fault-requires c =
           ∙ ap (λ (xs : List Record). hanging xs ms c.loop-index.index) (sym c.records-records.ensures));
     }
 
-pub returns-then-is-some : goal.returns-then-is-some
-returns-then-is-some c =
+pub returns-then-is_some : goal.returns-then-is_some
+returns-then-is_some c =
     let rs = c.records-records.result.now in
-    lowest_some (gate_fault c.args.limit.value rs c.args.marks.now) c.loop-index.index (length rs) c.gate-fault-fault.result c.loop-index.invariant c.gate-fault-fault.ensures (sym c.if-is-some.ensures) c.loop-index-test.true
+    lowest_some (gate_fault c.args.limit.value rs c.args.marks.now) c.loop-index.index (length rs) c.gate_fault-fault.result c.loop-index.invariant c.gate_fault-fault.ensures (sym c.if-is_some.ensures) c.loop-index-test.true
     ∙ ap (λ (xs : List Record). lowest (gate_fault c.args.limit.value xs c.args.marks.now) (length xs)) c.records-records.ensures
 
 pub loop-index-preserved : goal.loop-index-preserved
 loop-index-preserved c =
-    lowest_more (gate_fault c.args.limit.value c.records-records.result.now c.args.marks.now) c.loop-index.index c.loop-index.invariant (sym c.gate-fault-fault.ensures ∙ none_since c.gate-fault-fault.result (sym c.if-is-some.ensures))
+    lowest_more (gate_fault c.args.limit.value c.records-records.result.now c.args.marks.now) c.loop-index.index c.loop-index.invariant (sym c.gate_fault-fault.ensures ∙ none_since c.gate_fault-fault.result (sym c.if-is_some.ensures))

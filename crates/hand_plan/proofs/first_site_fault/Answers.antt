@@ -19,7 +19,7 @@ returns-then-needed-index c =
     let spare = c.args.spare.now in
     let i = c.loop-index.index in
     let here : i < length rs = omega (arith, c.loop-index-test.true, ap length c.records-count.ensures) in
-    let more : spare_at spare i < need rs ms i = omega (arith, c.if-needed-index.true, need_told r ms c.needs-needed.result i here c.needs-needed.ensures.answer, c.spare-at.ensures) in
+    let more : spare_at spare i < need rs ms i = omega (arith, c.if-needed-index.true, need_told r ms c.needs-needed.result i here c.needs-needed.ensures.answer, c.spare_at.ensures) in
     let wrong : site_fault rs spare ms i ≡ Some (Sites i) = ap (λ (b : Bool). unless b (Sites i)) (lt-leb (need rs ms i) (spare_at spare i) more) in
     sym (lowest_found (site_fault rs spare ms) i (length rs) (Sites i) c.loop-index.invariant wrong here)
 
@@ -31,7 +31,7 @@ loop-index-preserved c =
     let spare = c.args.spare.now in
     let i = c.loop-index.index in
     let here : i < length rs = omega (arith, c.loop-index-test.true, ap length c.records-count.ensures) in
-    let fits : need rs ms i ≤ spare_at spare i = omega (arith, c.if-needed-index.false, need_told r ms c.needs-needed.result i here c.needs-needed.ensures.answer, c.spare-at.ensures) in
+    let fits : need rs ms i ≤ spare_at spare i = omega (arith, c.if-needed-index.false, need_told r ms c.needs-needed.result i here c.needs-needed.ensures.answer, c.spare_at.ensures) in
     lowest_more (site_fault rs spare ms) i c.loop-index.invariant (unless_clear (leb (need rs ms i) (spare_at spare i)) (Sites i) (le-leb (need rs ms i) (spare_at spare i) fits))
 
 pub returns : wants.returns

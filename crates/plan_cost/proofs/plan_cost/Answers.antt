@@ -14,7 +14,7 @@ loop-index-preserved g c =
     let here : i < length rs = omega (arith, c.loop-index-test.true, ap length c.records-count.ensures) in
     let sites : get_or c.needs-needed.result i 0 ≡ need rs c.args.marks.now i = need_told r c.args.marks.now c.needs-needed.result i here c.needs-needed.ensures.answer in
     c.plus-sum.ensures
-    ∙ ((λ k. m.plus ((c.tile-cost.ensures ∙ (λ j. tile_cost m.nothing m.plus (c.price-at.ensures j) (sites j))) k) (c.loop-index.invariant k))
+    ∙ ((λ k. m.plus ((c.tile_cost.ensures ∙ (λ j. tile_cost m.nothing m.plus (c.price_at.ensures j) (sites j))) k) (c.loop-index.invariant k))
     ∙ ap (cost_below m.nothing m.plus rs c.args.prices.now c.args.marks.now) (sym (add-one i)))
 
 pub returns : wants.returns

@@ -6,7 +6,7 @@ use Rattle.plan.specs.Walk.{Walked}
 use Rattle.plan.proofs.Walking.{small, step, up_small}
 use Rattle.plan.proofs.lengths.pass_up.Goals as goal
 
-passes_up : (c : goal.After-passed-passes) → c.passed-passes.result ≡ cond (head_at c.args.marks.now c.args.index) 0 (1 + cond (trunk_at c.args.marks.now c.args.index) 0 (get_or c.args.lengths.now c.args.index 0))
+passes_up : (c : goal.After-slice_known-3-1) → c.passed-passes.result ≡ cond (head_at c.args.marks.now c.args.index) 0 (1 + cond (trunk_at c.args.marks.now c.args.index) 0 (get_or c.args.lengths.now c.args.index 0))
 passes_up c = c.passed-passes.ensures ∙ ap (λ (m : ℕ). cond (has_head m) 0 (1 + cond (has_trunk m) 0 (get_or c.args.lengths.now c.args.index 0))) c.mark_at.ensures
 
 pub passed-passes-requires : goal.passed-passes-requires
