@@ -9,8 +9,8 @@ use Rattle.search.proofs.families.link.Goals as goal
 pub loop-k-init : goal.loop-k-init
 loop-k-init c = (c.requires.fresh, first_only (λ j. get_or c.args.ranks.now j 0 ≡ rank_of c.args.records.now j) c.requires.first)
 
-pub with-child-requires : goal.with-child-requires
-with-child-requires c = few_siblings c.args.records.now c.requires.tree c.loop-k.families c.loop-k.k (omega arith) (omega arith) c.loop-k.invariant.0
+pub with_child-requires : goal.with_child-requires
+with_child-requires c = few_siblings c.args.records.now c.requires.tree c.loop-k.families c.loop-k.k (omega arith) (omega arith) c.loop-k.invariant.0
 
 pub loop-k-preserved : goal.loop-k-preserved
 loop-k-preserved c =
@@ -19,6 +19,6 @@ loop-k-preserved c =
     let pos : 0 < k = omega arith in
     let inside : k < length rs = omega arith in
     let before : parent_of rs k < k = c.requires.tree.earlier k pos inside in (
-      linked_more rs c.requires.tree c.loop-k.families k pos inside c.loop-k.invariant.0 c.with-child.result (omega arith) c.with-child.ensures,
+      linked_more rs c.requires.tree c.loop-k.families k pos inside c.loop-k.invariant.0 c.with_child.result (omega arith) c.with_child.ensures,
       set_more 0 (rank_of rs) c.loop-k.ranks k _ (omega arith) (rank_is rs c.requires.tree c.loop-k.families k pos inside c.loop-k.invariant.0) c.loop-k.invariant.1,
     )

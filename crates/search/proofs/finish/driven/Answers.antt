@@ -12,4 +12,4 @@ loop-h-preserved g c =
     let o = kind m.nothing m.plus m.at_most in
     let xs = c.args.cells.now in
     cheapest_more o (λ h. charged o (kth_price m.nothing m.plus c.args.price h) (cheapest o (suc c.args.limit) (λ j. table_of m.held xs c.args.base (c.args.limit + 1) h j))) c.loop-h.h _ _ _ c.loop-h.invariant
-    (c.charged.ensures ∙ ap (λ x. charged o x (as_joined m.held c.level.result)) c.kth-price-fee.ensures ∙ ap (charged o (kth_price m.nothing m.plus c.args.price c.loop-h.h)) (c.level.ensures ∙ ap (λ p. cheapest o (suc c.args.limit) (table_at m.held xs p)) c.place.ensures.is)) c.cheaper-best.ensures.tables
+    (c.charged.ensures ∙ ap (λ x. charged o x (as_joined m.held c.level.result)) c.kth_price-fee.ensures ∙ ap (charged o (kth_price m.nothing m.plus c.args.price c.loop-h.h)) (c.level.ensures ∙ ap (λ p. cheapest o (suc c.args.limit) (table_at m.held xs p)) c.place.ensures.is)) c.cheaper-best.ensures.tables

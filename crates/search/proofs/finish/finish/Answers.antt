@@ -49,11 +49,11 @@ loop-e-init g c = (λ k l. refl, λ k l. refl, λ e l. absurd (omega arith))
 pub best-cell-requires : goal.best-cell-requires
 best-cell-requires g c = record { within = omega arith; reach = omega arith }
 
-pub overflow-add-at : goal.overflow-add-at
-overflow-add-at g c = omega arith
+pub overflow_add-at : goal.overflow_add-at
+overflow_add-at g c = omega arith
 
 pub bounds-cells-at : goal.bounds-cells-at
 bounds-cells-at g c = omega arith
 
-pub offset-bounds-cells-at : goal.offset-bounds-cells-at
-offset-bounds-cells-at g c = let within : c.args.at + c.loop-e.e < length c.args.cells.now = omega arith in search rules
+pub offset_bounds-cells-at : goal.offset_bounds-cells-at
+offset_bounds-cells-at g c = let within : c.args.at + c.loop-e.e < length c.args.cells.now = omega arith in search rules

@@ -1,8 +1,8 @@
 use Rattle.std.proofs.Common.{refl}
 use Rattle.search.proofs.marks.decide.Goals as goal
 
-pub hand-down-requires : goal.hand-down-requires
-hand-down-requires g c = record {
+pub hand_down-requires : goal.hand_down-requires
+hand_down-requires g c = record {
   tree = c.requires.tree;
   many = c.requires.many;
   first = refl;
@@ -14,4 +14,4 @@ hand-down-requires g c = record {
 }
 
 pub returns : goal.returns
-returns g c = c.hand-down.ensures
+returns g c = c.hand_down.ensures

@@ -26,8 +26,8 @@ loop-k-init g c =
     let r = rows_within m.held c.args.cells.now c.args.limit in
     let some : 0 < length rs = c.requires.tree.some in (
       first_only (λ j. get_or c.args.lengths.now j 0 ≡ handed_down N r c.args.e (length rs) j) (c.requires.first ∙ sym (handed_first N root r c.args.e)),
-      λ j l. set_more 0 (handed_mark N r c.args.e) c.args.marks.now 0 c.mark-of.result (omega arith)
-          (c.mark-of.ensures ∙ ap (λ t. mark_of (record { head = false; trunk = t })) c.trunk-of.ensures ∙ ap mark_of (sym (layout_first N root r c.args.e)))
+      λ j l. set_more 0 (handed_mark N r c.args.e) c.args.marks.now 0 c.mark_of.result (omega arith)
+          (c.mark_of.ensures ∙ ap (λ t. mark_of (record { head = false; trunk = t })) c.trunk_of.ensures ∙ ap mark_of (sym (layout_first N root r c.args.e)))
           (λ k h. absurd (omega arith)) j (omega arith),
     )
 
@@ -40,15 +40,15 @@ loop-k-preserved g c =
     let root = rooted o c.args.limit rs c.requires.tree in
     let r = rows_within m.held c.args.cells.now c.args.limit in
     let k = c.loop-k.k in
-    let room = length-set c.args.marks.now 0 c.mark-of.result in
+    let room = length-set c.args.marks.now 0 c.mark_of.result in
     let inside : k < length rs = omega arith in
     let before : parent_of rs k < k = c.requires.tree.earlier k (omega arith) inside in
     let above : get_or c.loop-k.lengths (parent_of rs k) 0 ≡ handed_down N r c.args.e (length rs) (parent_of rs k) = c.loop-k.invariant.0 (parent_of rs k) before in
     let is : branch_of c.leg-leg.result ≡ choice_for N r k (handed_down N r c.args.e (length rs) (parent_of rs k)) = c.leg-leg.ensures ∙ ap (choice_for N r k) above in (
       set_more 0 (handed_down N r c.args.e (length rs)) c.loop-k.lengths k c.leg-leg.result.entering (omega arith)
           (ap (λ b. b.entering) is ∙ sym (handed_next N root r c.args.e k (omega arith) inside)) c.loop-k.invariant.0,
-      set_more 0 (handed_mark N r c.args.e) c.loop-k.marks k c.mark-of-in-loop-k.result (omega (arith, room))
-          (c.mark-of-in-loop-k.ensures ∙ ap (λ t. mark_of (record { head = c.leg-leg.result.head; trunk = t })) c.trunk-of-in-loop-k.ensures
+      set_more 0 (handed_mark N r c.args.e) c.loop-k.marks k c.mark_of-in-loop-k.result (omega (arith, room))
+          (c.mark_of-in-loop-k.ensures ∙ ap (λ t. mark_of (record { head = c.leg-leg.result.head; trunk = t })) c.trunk_of-in-loop-k.ensures
           ∙ ap mark_of (sym (layout_next N root r c.args.e k (omega arith) inside (branch_of c.leg-leg.result) is)))
           c.loop-k.invariant.1,
     )
@@ -56,14 +56,14 @@ loop-k-preserved g c =
 pub returns : goal.returns
 returns g c k h = c.loop-k.invariant.1 k (omega arith)
 
-pub trunk-of-requires : goal.trunk-of-requires
-trunk-of-requires g c = record { below = c.requires.tree.some; within = c.requires.within }
+pub trunk_of-requires : goal.trunk_of-requires
+trunk_of-requires g c = record { below = c.requires.tree.some; within = c.requires.within }
 
 pub bounds-marks-0 : goal.bounds-marks-0
 bounds-marks-0 g c = omega (arith, c.requires.tree.some)
 
-pub offset-bounds-records-k : goal.offset-bounds-records-k
-offset-bounds-records-k g c = omega arith
+pub offset_bounds-records-k : goal.offset_bounds-records-k
+offset_bounds-records-k g c = omega arith
 
 pub bounds-records-k : goal.bounds-records-k
 bounds-records-k g c = omega arith
@@ -79,8 +79,8 @@ leg-leg-requires g c = record { one = omega arith; inside = omega arith; tree = 
 pub bounds-lengths-k : goal.bounds-lengths-k
 bounds-lengths-k g c = omega arith
 
-pub trunk-of-requires-in-loop-k : goal.trunk-of-requires-in-loop-k
-trunk-of-requires-in-loop-k g c = record { below = omega arith; within = c.requires.within }
+pub trunk_of-requires-in-loop-k : goal.trunk_of-requires-in-loop-k
+trunk_of-requires-in-loop-k g c = record { below = omega arith; within = c.requires.within }
 
 pub bounds-marks-k : goal.bounds-marks-k
-bounds-marks-k g c = omega (arith, length-set c.args.marks.now 0 c.mark-of.result)
+bounds-marks-k g c = omega (arith, length-set c.args.marks.now 0 c.mark_of.result)

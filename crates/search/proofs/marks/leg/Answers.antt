@@ -6,8 +6,8 @@ use Rattle.search_cells.proofs.Handing.{choice_none, choice_some}
 use Rattle.search_cells.proofs.Kinship.{rank_below}
 use Rattle.search.proofs.marks.leg.Goals as goal
 
-pub offset-bounds-legs-ranks : goal.offset-bounds-legs-ranks
-offset-bounds-legs-ranks g c = omega (arith, rank_below c.args.records.now c.requires.tree c.args.k c.requires.one c.requires.inside, c.requires.ranked c.args.k c.requires.inside)
+pub offset_bounds-legs-ranks : goal.offset_bounds-legs-ranks
+offset_bounds-legs-ranks g c = omega (arith, rank_below c.args.records.now c.requires.tree c.args.k c.requires.one c.requires.inside, c.requires.ranked c.args.k c.requires.inside)
 
 pub bounds-legs-ranks : goal.bounds-legs-ranks
 bounds-legs-ranks g c = omega (arith, rank_below c.args.records.now c.requires.tree c.args.k c.requires.one c.requires.inside, c.requires.ranked c.args.k c.requires.inside)
@@ -29,8 +29,8 @@ returns-in-Some g c =
     ∙ choice_some (problem (kind m.nothing m.plus m.at_most) c.args.limit ps [] []) (rows_within m.held c.args.cells.now c.args.limit) c.args.k c.args.e
     (m.held x.cost) x.trunk x.legs x.count c.in-Some.ensures (c.requires.long p c.args.e small) c.requires.one c.requires.inside
 
-pub offset-bounds-records-k : goal.offset-bounds-records-k
-offset-bounds-records-k g c = omega arith
+pub offset_bounds-records-k : goal.offset_bounds-records-k
+offset_bounds-records-k g c = omega arith
 
 pub bounds-records-k : goal.bounds-records-k
 bounds-records-k g c = omega arith

@@ -41,8 +41,8 @@ returns-else-some g c =
 pub hung-own-requires : goal.hung-own-requires
 hung-own-requires g c = record { own = c.requires.own_val; other = c.requires.other; room = c.requires.room }
 
-pub overflow-add-lower : goal.overflow-add-lower
-overflow-add-lower g c = omega (arith, c.requires.lower c.if-some.true)
+pub overflow_add-lower : goal.overflow_add-lower
+overflow_add-lower g c = omega (arith, c.requires.lower c.if-some.true)
 
 pub bounds-cells-low : goal.bounds-cells-low
 bounds-cells-low g c = omega (arith, c.requires.lower c.if-some.true)

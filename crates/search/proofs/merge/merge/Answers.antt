@@ -5,13 +5,13 @@ use Rattle.search_theory.specs.Joining.{step}
 use Rattle.search_cells.proofs.Inplace.{rows_apart, joined_step}
 use Rattle.search.proofs.merge.merge.Goals as goal
 
-pub overflow-add-at : goal.overflow-add-at
-overflow-add-at g c =
+pub overflow_add-at : goal.overflow_add-at
+overflow_add-at g c =
     let span = rows_apart (c.loop-h.h - 1) 5 (c.args.limit + 1) (omega arith) in
     omega (arith, span)
 
-pub merge-row-requires : goal.merge-row-requires
-merge-row-requires g c =
+pub merge_row-requires : goal.merge_row-requires
+merge_row-requires g c =
     let w = c.args.limit + 1 in
     let h = c.loop-h.h - 1 in
     let span = rows_apart h 5 w (omega arith) in
@@ -44,15 +44,15 @@ loop-h-preserved g c =
     let p = kth_price m.nothing m.plus c.args.price in
     let next = rows_apart h c.loop-h.h w (omega arith) in
     let lies : base + h * w - w + w ≡ base + h * w = omega arith in (
-      λ k l. c.merge-row.ensures.before k l ∙ c.loop-h.invariant.0 k (omega (arith, next)),
+      λ k l. c.merge_row.ensures.before k l ∙ c.loop-h.invariant.0 k (omega (arith, next)),
       λ i j a b d. elim (eq-or-lt_of_le a) [
         | inl e ↦
-            subst (λ i. table_of m.held c.merge-row.new.cells base w i j ≡ step o limit p (table_of m.held old base w) (row_at m.held old child) i j) e
-            (c.merge-row.ensures.row j d
-            ∙ joined_step o m.held xs old base child limit w refl c.requires.apart c.kth-price-fee.result p (as_reached m.held c.best-entry-first.result) c.best-entry-first.ensures h (base + h * w - w) j (c.kth-price-fee.ensures ∙ ap p c.before-in-loop-h.ensures) lies d (λ k l. c.loop-h.invariant.0 k (omega (arith, next))))
+            subst (λ i. table_of m.held c.merge_row.new.cells base w i j ≡ step o limit p (table_of m.held old base w) (row_at m.held old child) i j) e
+            (c.merge_row.ensures.row j d
+            ∙ joined_step o m.held xs old base child limit w refl c.requires.apart c.kth_price-fee.result p (as_reached m.held c.best_entry-first.result) c.best_entry-first.ensures h (base + h * w - w) j (c.kth_price-fee.ensures ∙ ap p c.before-in-loop-h.ensures) lies d (λ k l. c.loop-h.invariant.0 k (omega (arith, next))))
         | inr l ↦
             let far = rows_apart h i w l in
-            ap (as_joined m.held) (c.merge-row.ensures.after (base + i * w + j) (omega (arith, far))) ∙ c.loop-h.invariant.1 i j (omega arith) b d
+            ap (as_joined m.held) (c.merge_row.ensures.after (base + i * w + j) (omega (arith, far))) ∙ c.loop-h.invariant.1 i j (omega arith) b d
       ],
     )
 
@@ -62,17 +62,17 @@ returns g c = record {
   before = λ k l. c.loop-h.invariant.0 k (omega arith);
 }
 
-pub best-entry-first-requires : goal.best-entry-first-requires
-best-entry-first-requires g c = omega arith
+pub best_entry-first-requires : goal.best_entry-first-requires
+best_entry-first-requires g c = omega arith
 
-pub overflow-add-width : goal.overflow-add-width
-overflow-add-width g c = omega arith
+pub overflow_add-width : goal.overflow_add-width
+overflow_add-width g c = omega arith
 
 pub loop-h-init : goal.loop-h-init
 loop-h-init g c = (λ k l. refl, λ h j a b d. absurd (omega arith))
 
-pub overflow-mul-at : goal.overflow-mul-at
-overflow-mul-at g c = omega (arith, rows_apart (c.loop-h.h - 1) 5 (c.args.limit + 1) (omega arith))
+pub overflow_mul-at : goal.overflow_mul-at
+overflow_mul-at g c = omega (arith, rows_apart (c.loop-h.h - 1) 5 (c.args.limit + 1) (omega arith))
 
-pub overflow-sub-at : goal.overflow-sub-at
-overflow-sub-at g c = omega arith
+pub overflow_sub-at : goal.overflow_sub-at
+overflow_sub-at g c = omega arith

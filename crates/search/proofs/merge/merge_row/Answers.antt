@@ -41,11 +41,11 @@ returns g c = record {
   after = c.loop-j.invariant.1;
 }
 
-pub overflow-add-at : goal.overflow-add-at
-overflow-add-at g c = omega arith
+pub overflow_add-at : goal.overflow_add-at
+overflow_add-at g c = omega arith
 
 pub bounds-cells-at : goal.bounds-cells-at
 bounds-cells-at g c = omega arith
 
-pub offset-bounds-cells-at : goal.offset-bounds-cells-at
-offset-bounds-cells-at g c = let within : c.args.at + (c.loop-j.j - 1) < length c.args.cells.now = omega arith in search rules
+pub offset_bounds-cells-at : goal.offset_bounds-cells-at
+offset_bounds-cells-at g c = let within : c.args.at + (c.loop-j.j - 1) < length c.args.cells.now = omega arith in search rules

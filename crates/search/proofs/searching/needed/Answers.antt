@@ -8,11 +8,11 @@ use Rattle.search.proofs.searching.needed.Goals as goal
 few : (r : Route) → length (records_of r) ≤ 256
 few r = (proper_if r.grid (records_of r) r.checked).not_many
 
-pub overflow-add-result : goal.overflow-add-result
-overflow-add-result c = omega (arith, few c.args.route.now, ap length c.records.ensures)
+pub overflow_add-result : goal.overflow_add-result
+overflow_add-result c = omega (arith, few c.args.route.now, ap length c.records.ensures)
 
-pub overflow-mul-result : goal.overflow-mul-result
-overflow-mul-result c =
+pub overflow_mul-result : goal.overflow_mul-result
+overflow_mul-result c =
     let rows : length c.records.result.now + 10 ≤ 266 = omega (arith, few c.args.route.now, ap length c.records.ensures) in
     let width : c.figure.result + 1 ≤ 17 = omega (arith, c.figure.ensures, c.args.limit.fits) in
     omega (arith, mul-le-mul rows width)

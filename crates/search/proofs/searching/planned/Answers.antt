@@ -52,10 +52,10 @@ returns-in-Some g c =
     let ms = c.decide.new.marks in
     let is = some_chosen (kind m.nothing m.plus m.at_most) m.held c.args.limit c.args.records.now c.args.spare.now c.args.prices.now c.requires.tree c.walk.new.cells c.walk.ensures.rows
     x ms c.in-Some.ensures (omega arith) c.decide.ensures in
-    record { answer = ap Some c.from-cell.ensures ∙ ap cost_of is; marks = ap (marks_of_chosen c.args.marks.now) is }
+    record { answer = ap Some c.from_cell.ensures ∙ ap cost_of is; marks = ap (marks_of_chosen c.args.marks.now) is }
 
-pub best-entry-first-requires : goal.best-entry-first-requires
-best-entry-first-requires g c = omega arith
+pub best_entry-first-requires : goal.best_entry-first-requires
+best_entry-first-requires g c = omega arith
 
-pub overflow-add-limit : goal.overflow-add-limit
-overflow-add-limit g c = omega (arith, c.requires.fits)
+pub overflow_add-limit : goal.overflow_add-limit
+overflow_add-limit g c = omega (arith, c.requires.fits)

@@ -66,8 +66,8 @@ planned-requires g c =
       room = omega arith;
     }
 
-pub overflow-cast-figure : goal.overflow-cast-figure
-overflow-cast-figure g c = omega (arith, c.figure.ensures, c.args.limit.fits)
+pub overflow_cast-figure : goal.overflow_cast-figure
+overflow_cast-figure g c = omega (arith, c.figure.ensures, c.args.limit.fits)
 
 pub returns : goal.returns
 returns g c =

@@ -30,7 +30,7 @@ loop-i-preserved g c k e a b d =
       | inl q ↦
           subst (λ k. rows_of m.held new w k e ≡ row o N k e) q
           (ap (λ p. row_at m.held new p e) (sym at) ∙ c.finish.ensures.row e d
-          ∙ ap (λ s. finish o limit (ltb 0 i) s p (five_rows t) e) c.spare-at-spare-here.ensures
+          ∙ ap (λ s. finish o limit (ltb 0 i) s p (five_rows t) e) c.spare_at-spare_here.ensures
           ∙ node_right o N (record { some = c.requires.tree.some; before = c.requires.tree.earlier }) i within (c.requires.tree.narrow i within) (rows_of m.held c.clear.new.cells w)
           (λ k l s e d. ap (as_chosen m.held) (c.clear.ensures.before (k * w + e) (omega (arith, rows_apart k n w s))) ∙ c.loop-i.invariant k e (omega arith) s d) p (ap (kth_price m.nothing m.plus) c.offered-price.ensures) t
           (λ h j a b. c.gather.ensures.table h j a b ∙ ap (λ ks. table o limit p (map (rows_of m.held c.clear.new.cells w) ks) h j) (c.requires.told i within)) e d)
@@ -58,11 +58,11 @@ gather-requires g c =
 pub returns : goal.returns
 returns g c = record { rows = λ i e h l. c.loop-i.invariant i e (omega arith) h l }
 
-pub overflow-add-base : goal.overflow-add-base
-overflow-add-base g c = omega arith
+pub overflow_add-base : goal.overflow_add-base
+overflow_add-base g c = omega arith
 
-pub overflow-mul-base : goal.overflow-mul-base
-overflow-mul-base g c = omega arith
+pub overflow_mul-base : goal.overflow_mul-base
+overflow_mul-base g c = omega arith
 
 pub loop-i-init : goal.loop-i-init
 loop-i-init g c = λ i e a b d. absurd (omega arith)
