@@ -50,4 +50,4 @@ TellsBest o limit rs spare prices (Err f) marks = Unit {0}
 
 -- what is chosen for this net rests on nothing but its records, its spare sites, and its prices where a site is spare
 abbrev pub RestsOnNet : {C : Type 0} → Kind C → ℕ → List Record → List ℕ → List (Option C) → Type 0
-RestsOnNet o limit rs spare prices = (spare' : List ℕ) (prices' : List (Option C)) → ToldAlike rs spare prices spare' prices' → chosen o limit rs spare prices ≡ chosen o limit rs spare' prices'
+RestsOnNet {C = C} o limit rs spare prices = (spare' : List ℕ) (prices' : List (Option C)) → ToldAlike rs spare prices spare' prices' → chosen o limit rs spare prices ≡ chosen o limit rs spare' prices'
