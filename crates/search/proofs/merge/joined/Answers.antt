@@ -39,7 +39,7 @@ returns-else-some g c =
     ∙ sym (ap (λ b. cheaper o H (cond b (charged o c.args.price (join o true (table_at m.held xs c.args.low j) (as_reached m.held c.args.first))) None)) c.if-some.false)
 
 pub hung-own-requires : goal.hung-own-requires
-hung-own-requires g c = record { own = c.requires.own_val; other = c.requires.other; room = c.requires.room }
+hung-own-requires g c = record { own = c.requires.own; other = c.requires.other; room = c.requires.room }
 
 pub overflow_add-lower : goal.overflow_add-lower
 overflow_add-lower g c = omega (arith, c.requires.lower c.if-some.true)

@@ -20,7 +20,7 @@ link-requires g c = record {
 pub walk-requires : goal.walk-requires
 walk-requires g c = record {
   fits = c.requires.fits;
-  own = c.requires.own_val;
+  own = c.requires.own;
   tree = c.requires.tree;
   wide = omega (arith, c.link.auto.families);
   told = c.link.ensures.families;
