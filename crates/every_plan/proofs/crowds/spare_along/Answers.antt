@@ -5,7 +5,7 @@ use Rattle.every_plan.proofs.crowds.spare_along.Goals as goal
 
 pub loop-k-preserved : goal.loop-k-preserved
 loop-k-preserved c =
-    one_written (spare_at c.args.crowd.now) c.loop-k.spare shape_room c.loop-k.k _ c.loop-k-test.true c.saturating-sub.ensures c.loop-k.invariant
+    one_written (spare_at c.args.crowd.now) c.loop-k.spare shape_room c.loop-k.k _ c.loop-k-test.true c.saturating_sub.ensures c.loop-k.invariant
 
 pub returns : goal.returns
 returns c =

@@ -12,7 +12,7 @@ bounds-prices-index g c = omega (arith, c.loop-index.invariant.0)
 pub loop-index-preserved : goal.loop-index-preserved
 loop-index-preserved g c =
     let its = price_at g.P.Cost.held g.P.Pricing.priced c.args.crowd.now in
-    one_written its c.loop-index.prices (length c.args.prices.now) c.loop-index.index c.price-at.result (omega arith) c.price-at.ensures c.loop-index.invariant
+    one_written its c.loop-index.prices (length c.args.prices.now) c.loop-index.index c.price_at.result (omega arith) c.price_at.ensures c.loop-index.invariant
 
 pub returns : goal.returns
 returns g c =

@@ -9,5 +9,5 @@ pub returns : goal.returns
 returns c =
     let s = c.args.shape.now in
     c.check.ensures.answer
-    ∙ (ap (λ (rs : List Record). route_checked c.args.grid (take (c.min-count.result - 0) rs)) c.records-along-records.ensures
+    ∙ (ap (λ (rs : List Record). route_checked c.args.grid (take (c.min-count.result - 0) rs)) c.records_along-records.ensures
     ∙ ap (route_checked c.args.grid) (shorter_part s.count (records_along s) c.min-count.result c.min-count.ensures))

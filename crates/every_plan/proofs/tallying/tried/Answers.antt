@@ -21,10 +21,10 @@ loop-crowd-preserved g c =
     let write = λ (places : ℕ) (_ : List (Option g.row.P.Denot)). prices_along m.held g.P.Pricing.priced places in
     let xs = c.args.crowds.now in
     let i = c.loop-crowd.crowd-index in (
-      one_folded step (length c.args.prices.now, length c.args.cells.now) no_tally xs i no_crowd (length c.loop-crowd.prices, length c.loop-crowd.cells) c.loop-crowd.tally c.in-crowd-tally.result
-          c.loop-crowd-test.true (λ j. (c.loop-crowd.auto.prices j, c.loop-crowd.auto.cells j)) c.in-crowd-tally.ensures.tally c.loop-crowd.invariant.0,
-      one_folded write (length c.args.prices.now) c.args.prices.now xs i no_crowd (length c.loop-crowd.prices) c.loop-crowd.prices c.in-crowd-tally.new.prices
-          c.loop-crowd-test.true c.loop-crowd.auto.prices c.in-crowd-tally.ensures.prices c.loop-crowd.invariant.1,
+      one_folded step (length c.args.prices.now, length c.args.cells.now) no_tally xs i no_crowd (length c.loop-crowd.prices, length c.loop-crowd.cells) c.loop-crowd.tally c.in_crowd-tally.result
+          c.loop-crowd-test.true (λ j. (c.loop-crowd.auto.prices j, c.loop-crowd.auto.cells j)) c.in_crowd-tally.ensures.tally c.loop-crowd.invariant.0,
+      one_folded write (length c.args.prices.now) c.args.prices.now xs i no_crowd (length c.loop-crowd.prices) c.loop-crowd.prices c.in_crowd-tally.new.prices
+          c.loop-crowd-test.true c.loop-crowd.auto.prices c.in_crowd-tally.ensures.prices c.loop-crowd.invariant.1,
     )
 
 pub returns : goal.returns

@@ -17,11 +17,11 @@ loop-throw-preserved c =
     let g = c.args.grid in
     let t = grown g c.loop-throw.-throw in
     let after = one_more g c.loop-throw.-throw in
-    let dice : c.next-dice-dice.result ≡ next_dice t.dice = c.next-dice-dice.ensures ∙ ap next_dice c.loop-throw.invariant.1 in
+    let dice : c.next_dice-dice.result ≡ next_dice t.dice = c.next_dice-dice.ensures ∙ ap next_dice c.loop-throw.invariant.1 in
     let records : c.loop-throw.records ≡ t.records = c.loop-throw.invariant.3 in
     let count : c.loop-throw.count ≡ t.count = c.loop-throw.invariant.2 in
-    let counts : c.grow-count.result ≡ (throw g t).count = c.grow-count.ensures.count ∙ (ap (λ (rs : List Record). count_after g rs c.loop-throw.count c.next-dice-dice.result) records ∙ (ap (λ (k : ℕ). count_after g t.records k c.next-dice-dice.result) count ∙ ap (λ (d : ℕ). count_after g t.records t.count d) dice)) in
-    let adds : c.grow-count.new.records ≡ (throw g t).records = c.grow-count.ensures.records ∙ (ap (λ (rs : List Record). records_after g rs c.loop-throw.count c.next-dice-dice.result) records ∙ (ap (λ (k : ℕ). records_after g t.records k c.next-dice-dice.result) count ∙ ap (λ (d : ℕ). records_after g t.records t.count d) dice)) in
+    let counts : c.grow-count.result ≡ (throw g t).count = c.grow-count.ensures.count ∙ (ap (λ (rs : List Record). count_after g rs c.loop-throw.count c.next_dice-dice.result) records ∙ (ap (λ (k : ℕ). count_after g t.records k c.next_dice-dice.result) count ∙ ap (λ (d : ℕ). count_after g t.records t.count d) dice)) in
+    let adds : c.grow-count.new.records ≡ (throw g t).records = c.grow-count.ensures.records ∙ (ap (λ (rs : List Record). records_after g rs c.loop-throw.count c.next_dice-dice.result) records ∙ (ap (λ (k : ℕ). records_after g t.records k c.next_dice-dice.result) count ∙ ap (λ (d : ℕ). records_after g t.records t.count d) dice)) in
     let full : length c.grow-count.new.records ≡ 256 = omega (arith, c.grow-count.auto.records, c.loop-throw.invariant.0) in
     (full, dice ∙ ap (λ (x : Growth). x.dice) after, counts ∙ ap (λ (x : Growth). x.count) after, adds ∙ ap (λ (x : Growth). x.records) after)
 
