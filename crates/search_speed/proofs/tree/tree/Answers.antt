@@ -15,8 +15,8 @@ loop-throw-init c = (refl, refl, refl, refl)
 pub loop-throw-preserved : goal.loop-throw-preserved
 loop-throw-preserved c =
     let g = c.args.grid in
-    let t = grown g c.loop-throw.-throw in
-    let after = one_more g c.loop-throw.-throw in
+    let t = grown g c.loop-throw._throw in
+    let after = one_more g c.loop-throw._throw in
     let dice : c.next_dice-dice.result ≡ next_dice t.dice = c.next_dice-dice.ensures ∙ ap next_dice c.loop-throw.invariant.1 in
     let records : c.loop-throw.records ≡ t.records = c.loop-throw.invariant.3 in
     let count : c.loop-throw.count ≡ t.count = c.loop-throw.invariant.2 in
@@ -27,5 +27,5 @@ loop-throw-preserved c =
 
 pub returns : goal.returns
 returns c =
-    let all : c.loop-throw.-throw ≡ 8192 = omega arith in
+    let all : c.loop-throw._throw ≡ 8192 = omega arith in
     subst (λ (n : ℕ). c.loop-throw.records ≡ (grown c.args.grid n).records) all c.loop-throw.invariant.3
