@@ -1,5 +1,5 @@
 -- A running sum, with the sum of the cells that are left, stays the sum of them all; this rests on the laws alone.
-use Rattle.std.proofs.Common.{◌≡◌, ℕ, ◌+◌, ◌<◌, ◌≤◌, Bool, List, [], ◌∷◌, length, get_or, drop, sym, ap, ◌∙◌}
+use Rattle.std.proofs.Common.{◌≡◌, ℕ, ◌+◌, ◌<◌, ◌≤◌, Bool, List, length, get_or, drop, sym, ap, ◌∙◌}
 use Rattle.std.proofs.lemmas.List.{drop_more, drop_all}
 use Rattle.laws.specs.Laws.{CostLaws}
 use Rattle.any_kind.specs.Bills.{sum_of}

@@ -1,6 +1,6 @@
 -- What a fare means, and that it keeps the laws. An implementation hands the proof of its laws over as a ghost value,
 -- and may take it from its own specs/.
-use Rattle.std.specs.Prelude.{◌≡◌, ℕ, ◌≤◌, max, Bool, true, ◌⊎◌, nat_le, refl}
+use Rattle.std.specs.Prelude.{◌≡◌, ℕ, max, Bool, nat_le, refl}
 use Rattle.std.proofs.Common.{inl, inr, ⊎_elim, arith}
 use Rattle.std.proofs.lemmas.Bool.{leb-true, le-leb, cases_lt}
 use Rattle.laws.specs.Laws.{CostLaws}

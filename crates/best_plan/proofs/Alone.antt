@@ -1,8 +1,7 @@
 -- Tellings that agree along a net have the same rows, and so the same choice.
-use Rattle.std.proofs.Common.{◌≡◌, ℕ, zero, suc, ◌<◌, ltb, List, [], ◌∷◌, ◌++◌, map, length, Some, None, Option, sym, refl, ap, ◌∙◌, arith}
+use Rattle.std.proofs.Common.{◌≡◌, ℕ, zero, suc, ◌<◌, ltb, List, [], ◌∷◌, ◌++◌, map, length, Some, None, Option, refl, ap, ◌∙◌, arith}
 use Rattle.net.specs.declared.records.record.Record.{Record}
 use Rattle.length_rule.specs.Costs.{kth_price}
-use Rattle.length_rule.specs.Legal.{spare_at}
 use Rattle.search_theory.specs.Costs.{Kind}
 use Rattle.search_theory.specs.Entries.{Priced}
 use Rattle.search_theory.specs.Joining.{best_entry, table, finish}
@@ -10,8 +9,8 @@ use Rattle.search_theory.specs.Layouts.{Problem, Rooted, kids, Layout}
 use Rattle.search_theory.specs.Search.{row, answered, layout_of, handed_down}
 use Rattle.search_theory.proofs.Answer.{row_filled, filled_row}
 use Rattle.search_theory.proofs.Handed.{layout_same}
-use Rattle.best_plan.specs.Chosen.{offered, problem, mark_of, marks_of, marked, chosen, ToldAlike}
-use Rattle.best_plan.specs.Cheapest.{HangsTogether, ChoiceAlone}
+use Rattle.best_plan.specs.Chosen.{problem, mark_of, marks_of, marked, chosen, ToldAlike}
+use Rattle.best_plan.specs.Cheapest.{HangsTogether}
 
 marks_same : (m u : Layout) (n : ℕ) → ((k : ℕ) → k < n → m k ≡ u k) → marks_of m n ≡ marks_of u n
 marks_same m u zero same = refl

@@ -1,5 +1,5 @@
 -- The marks that the search chooses are a cheapest legal plan, or no plan is legal.
-use Rattle.std.proofs.Common.{◌≡◌, ℕ, zero, suc, ◌+◌, ◌<◌, ◌≤◌, Bool, true, false, cond, eqb, ltb, ◌⊎◌, List, [], ◌∷◌, ◌++◌, length, Some, None, Option, sym, refl, ap, ◌∙◌, subst, inl, inr, ⊎_elim, arith}
+use Rattle.std.proofs.Common.{◌≡◌, ℕ, zero, suc, ◌+◌, ◌<◌, ◌≤◌, Bool, true, false, cond, eqb, ltb, List, ◌++◌, length, Some, None, Option, sym, refl, ap, ◌∙◌, subst, arith}
 use Rattle.std.specs.List.{AllByRecursion as All}
 use Rattle.std.proofs.lemmas.Bool.Decides.{nat_tests}
 use Rattle.net.specs.declared.records.record.Record.{Record}
@@ -9,7 +9,7 @@ use Rattle.length_rule.specs.Lengths.{hanging, entering}
 use Rattle.length_rule.proofs.Local.{needs_local}
 use Rattle.length_rule.proofs.Unique.{keeps}
 use Rattle.length_rule.specs.declared.Gate.{Gate}
-use Rattle.length_rule.specs.Gates.{gate, put_if, gates_at, need}
+use Rattle.length_rule.specs.Gates.{gate, put_if, need}
 use Rattle.length_rule.specs.Legal.{spare_at, Legal}
 use Rattle.length_rule.specs.Costs.{price_at, kth_price, tile_cost, cost_below, plan_cost}
 use Rattle.search_theory.specs.Costs.{Kind, Lawful, total, below}
@@ -19,8 +19,8 @@ use Rattle.search_theory.specs.Search.{found, Right}
 use Rattle.search_theory.proofs.Answer.{found_right}
 use Rattle.search_theory.proofs.Costs.{no_test}
 use Rattle.search_theory.proofs.Lengths.{one_entering, one_hanging, legal_same, cost_same}
-use Rattle.best_plan.specs.Chosen.{offered, problem, mark_of, marks_of, marked, chosen}
-use Rattle.best_plan.specs.Cheapest.{Cheapest, NoLegalPlan, AnswersBest, HangsTogether, PlansStand}
+use Rattle.best_plan.specs.Chosen.{offered, problem, marks_of, marked}
+use Rattle.best_plan.specs.Cheapest.{AnswersBest, HangsTogether, PlansStand}
 use Rattle.best_plan.proofs.Marks.{laid_out, mark_small, mark_none, marks_length, marks_at, marks_laid_out}
 use Rattle.best_plan.proofs.Same.{over_same}
 

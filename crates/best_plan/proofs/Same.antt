@@ -1,10 +1,10 @@
 -- The lists and sums of the length rule are those of the search.
-use Rattle.std.proofs.Common.{◌≡◌, ℕ, zero, suc, ◌+◌, ◌<◌, Bool, true, false, cond, List, [], ◌∷◌, length, sym, refl, ap, ◌∙◌, arith}
+use Rattle.std.proofs.Common.{◌≡◌, ℕ, zero, suc, ◌+◌, Bool, cond, List, [], ◌∷◌, length, refl, ap, ◌∙◌}
 use Rattle.net.specs.declared.records.record.Record.{Record}
 use Rattle.net.specs.Routes.{parent_of, is_child}
 use Rattle.length_rule.specs.Children.{indices, kept, children, sum_over}
 use Rattle.search_theory.specs.Costs.{sum, below}
-use Rattle.search_theory.specs.Tree.{keep, child, children as tree_children}
+use Rattle.search_theory.specs.Tree.{keep, children as tree_children}
 
 pub indices_below : (n : ℕ) → indices n ≡ below n
 indices_below zero = refl

@@ -1,5 +1,5 @@
 -- One more place cleared, and all of them.
-use Rattle.std.proofs.Common.{◌≡◌, ℕ, zero, suc, ◌+◌, ◌<◌, ◌≤◌, List, [], ◌∷◌, ◌++◌, map, length, get_or, set, sym, refl, ap, ◌∙◌, subst, add-one, arith, take_all}
+use Rattle.std.proofs.Common.{◌≡◌, ℕ, zero, suc, ◌+◌, ◌<◌, ◌≤◌, List, [], ◌∷◌, length, get_or, set, sym, refl, ap, ◌∙◌, add-one, arith, take_all}
 use Rattle.std.proofs.lemmas.List.{drop_all}
 use Rattle.counted.specs.declared.place.Place.{Place}
 use Rattle.counted.specs.Table.{cleared, unused}

@@ -1,11 +1,11 @@
 -- What a table means at one place, and what one write leaves of it.
-use Rattle.std.proofs.Common.{◌≡◌, ℕ, zero, suc, ◌<◌, min, List, [], ◌∷◌, map, length, get_or, take, set, sym, refl, ap, ◌∙◌, arith, get_or-take}
+use Rattle.std.proofs.Common.{◌≡◌, ℕ, ◌<◌, min, List, map, length, get_or, take, set, sym, ap, ◌∙◌, arith, get_or-take}
 use lib.Seq.{take-set-lt, set-get_or}
 use Rattle.std.proofs.lemmas.List.{length-map, length-take, map-set, get_or-map}
 use Rattle.stock.specs.Meaning.{Meaning, count, capacity, used}
 use Rattle.stock.specs.Calls.{with_use}
 use Rattle.counted.specs.declared.place.Place.{Place}
-use Rattle.counted.specs.Table.{of_places, of_table}
+use Rattle.counted.specs.Table.{of_table}
 
 pub count_table : (size : ℕ) (table : List Place) → count (of_table size table) ≡ min size (length table)
 count_table size table = length-map (take size table) (λ p. p.capacity) ∙ length-take size table

@@ -1,9 +1,9 @@
 -- A tile's number and its place tell the same.
-use Rattle.std.proofs.Common.{◌≡◌, ℕ, ◌+◌, ◌*◌, ◌/◌, ◌%◌, ◌<◌, true, ltb, arith}
+use Rattle.std.proofs.Common.{◌*◌, ◌/◌, ◌%◌, ◌<◌, ltb, arith}
 use Rattle.std.proofs.lemmas.Nat.{mul-add-lt, div-mul-add, mod-mul-add, div_below, mod_below, div-add-mod'}
 use Rattle.std.proofs.lemmas.Bool.{and_parts, and_from, ltb-true, lt-ltb}
 use Rattle.grid.specs.declared.shape.Grid.{Grid}
-use Rattle.grid.specs.Tiles.{Place, number, place, has_place, has_tile, NumberTellsPlace, PlaceTellsNumber}
+use Rattle.grid.specs.Tiles.{number, NumberTellsPlace, PlaceTellsNumber}
 
 pub number_tells_place : (g : Grid) → NumberTellsPlace g
 number_tells_place g p h =

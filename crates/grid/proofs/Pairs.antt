@@ -1,11 +1,11 @@
 -- Boundary numbers fit pairs of neighbours one to one.
-use Rattle.std.proofs.Common.{◌≡◌, ℕ, ◌+◌, ◌-◌, ◌*◌, ◌/◌, ◌%◌, ◌<◌, ◌≤◌, min, Bool, true, false, cond, ◌&&◌, ◌||◌, eqb, ltb, ◌⊎◌, Some, None, Option, sym, refl, ap, ◌∙◌, subst, inl, inr, ⊎_elim, mul-zero, arith}
+use Rattle.std.proofs.Common.{◌≡◌, ℕ, ◌+◌, ◌-◌, ◌*◌, ◌/◌, ◌%◌, ◌<◌, true, ◌&&◌, eqb, ltb, ◌⊎◌, Some, None, Option, sym, refl, ap, ◌∙◌, subst, inl, inr, ⊎_elim, mul-zero, arith}
 use Rattle.std.proofs.lemmas.Nat.{mul-add-lt, div-mul-add, mod-mul-add, div_below, mod_below, div-add-mod'}
-use Rattle.std.proofs.lemmas.Bool.{and_parts, and_from, or_cases, ltb-true, lt-ltb, eqb-true, eq-eqb, cond-true, cond-false, cases_lt, cases_Bool}
+use Rattle.std.proofs.lemmas.Bool.{and_parts, and_from, or_cases, ltb-true, lt-ltb, eqb-true, cond-true, cond-false, cases_lt, cases_Bool}
 use Rattle.std.proofs.lemmas.Bool.Decides.{nat_tests}
 use Rattle.grid.specs.declared.shape.Grid.{Grid}
 use Rattle.grid.specs.Tiles.{Place, number, place, has_place, has_tile}
-use Rattle.grid.specs.Boundaries.{one_apart, share_a_side, neighbours, boundary_count, boundary_right, boundary_below, boundary_at, boundary_between, SamePair, BoundaryEitherWay, BoundaryCounted, BoundaryTellsPair, EachBoundaryHasPair}
+use Rattle.grid.specs.Boundaries.{one_apart, share_a_side, neighbours, boundary_count, boundary_right, boundary_below, boundary_at, boundary_between, BoundaryEitherWay, BoundaryCounted, BoundaryTellsPair, EachBoundaryHasPair}
 use Rattle.grid.proofs.Numbering.{number_tells_place, place_tells_number}
 
 -- s is the left one, or the upper one, of two neighbours with the boundary b between them

@@ -1,5 +1,5 @@
 -- The tiles of a grid: how many there are, their numbers, and the place of each.
-use Rattle.std.specs.Prelude.{◌≡◌, ℕ, ◌+◌, ◌*◌, ◌/◌, ◌%◌, ◌<◌, Bool, true, cond, ◌&&◌, Some, None, Option, nat_lt}
+use Rattle.std.specs.Prelude.{◌≡◌, ℕ, ◌+◌, ◌*◌, ◌/◌, ◌%◌, Bool, true, cond, ◌&&◌, Some, None, Option, nat_lt}
 use Rattle.grid.specs.declared.shape.Grid.{Grid}
 
 -- a row and a column, told together

@@ -1,5 +1,5 @@
 -- The gates that drive too much, over lists of gates that follow one another.
-use Rattle.std.proofs.Common.{◌≡◌, ℕ, leb, List, [], ◌∷◌, ◌++◌, Some, None, Option, sym, refl, ap, ◌∙◌}
+use Rattle.std.proofs.Common.{◌≡◌, ℕ, leb, List, [], ◌∷◌, ◌++◌, Some, None, Option, refl, ap, ◌∙◌}
 use Rattle.net.specs.Lowest.{or_else, unless}
 use Rattle.length_rule.specs.declared.Gate.{Gate}
 use Rattle.length_rule.specs.declared.PlanFault.{PlanFault}

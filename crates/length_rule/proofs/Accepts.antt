@@ -1,5 +1,5 @@
 -- The refusals of a plan leave exactly the legal plans.
-use Rattle.std.proofs.Common.{◌≡◌, ℕ, zero, suc, ◌+◌, ◌<◌, ◌≤◌, Bool, true, false, cond, eqb, leb, List, [], ◌∷◌, length, Some, None, Decides, Option, sym, refl, ap, ◌∙◌, subst, ⊎_elim, arith}
+use Rattle.std.proofs.Common.{◌≡◌, ℕ, ◌<◌, ◌≤◌, Bool, cond, eqb, leb, List, [], ◌∷◌, length, None, Decides, Option, sym, refl, ap, ◌∙◌, subst, ⊎_elim, arith}
 use Rattle.std.specs.List.{AllByRecursion as All}
 use Rattle.std.proofs.lemmas.Bool.{leb-true, le-leb, eqb-true, eq-eqb, ne_eqb, cases_eq}
 use Rattle.std.proofs.lemmas.Bool.Decides.{nat_tests}
@@ -11,7 +11,7 @@ use Rattle.length_rule.specs.declared.PlanFault.TheVariants.{Marks, Mark, Drives
 use Rattle.length_rule.specs.declared.Gate.{Gate}
 use Rattle.length_rule.specs.Gates.{gates_at, need}
 use Rattle.length_rule.specs.Legal.{spare_at, Legal}
-use Rattle.length_rule.specs.Marks.{mark_at, Plan}
+use Rattle.length_rule.specs.Marks.{mark_at}
 use Rattle.length_rule.specs.Refusals.{mark_fault, over_limit, gate_fault, site_fault, plan_fault}
 
 both_none : {F : Type 0} (a b : Option F) → a ≡ None → b ≡ None → or_else a b ≡ None

@@ -1,15 +1,14 @@
 -- A tile needs its own trunk buffer and the head buffers of its children, and an index past the route nothing.
-use Rattle.std.proofs.Common.{◌≡◌, ℕ, zero, suc, ◌+◌, ◌<◌, ◌≤◌, Bool, true, false, cond, ◌&&◌, eqb, ltb, List, [], ◌∷◌, ◌++◌, length, sym, refl, ap, ◌∙◌, subst, arith}
+use Rattle.std.proofs.Common.{◌≡◌, ℕ, zero, suc, ◌+◌, ◌<◌, Bool, true, false, cond, ◌&&◌, eqb, List, ◌++◌, length, sym, refl, ap, ◌∙◌, arith}
 use Rattle.std.proofs.lemmas.Bool.{lt-ltb, eq-eqb, ne_eqb}
 use Rattle.net.specs.declared.records.record.Record.{Record}
 use Rattle.net.specs.Routes.{parent_of, is_child}
-use Rattle.length_rule.specs.Children.{indices, kept, children, sum_over}
-use Rattle.length_rule.specs.declared.Gate.{Gate}
-use Rattle.length_rule.specs.Gates.{gate, put_if, buffers, buffers_at, standing_at, need}
+use Rattle.length_rule.specs.Children.{indices, sum_over}
+use Rattle.length_rule.specs.Gates.{gate, put_if, buffers, buffers_at, standing_at}
 use Rattle.length_rule.specs.Lengths.{hanging, entering}
 use Rattle.length_rule.specs.Local.{NeedsAreLocal}
-use Rattle.length_rule.specs.Marks.{has_head, has_trunk, mark_at, head_at, trunk_at, Plan}
-use Rattle.length_rule.proofs.Sums.{sum_kept, sum_same, sum_two, sum_none, sum_one}
+use Rattle.length_rule.specs.Marks.{has_head, has_trunk, mark_at, head_at, trunk_at}
+use Rattle.length_rule.proofs.Sums.{sum_kept, sum_same, sum_two, sum_one}
 
 -- one buffer of a mark in the tile of index i: the head's, then the trunk's
 pub standing_parts : (i mark parent k h e : ℕ) → standing_at i (buffers mark parent k h e) ≡ cond (has_head mark) (cond (eqb parent i) 1 0) 0 + cond (has_trunk mark) (cond (eqb k i) 1 0) 0

@@ -1,11 +1,9 @@
 -- The lengths keep the rule on every route, and nothing else does.
-use Rattle.std.proofs.Common.{◌≡◌, ℕ, zero, suc, ◌+◌, ◌<◌, ◌≤◌, Bool, true, false, cond, ◌&&◌, eqb, ltb, List, length, sym, refl, ap, ◌∙◌, arith}
+use Rattle.std.proofs.Common.{◌≡◌, ℕ, zero, suc, ◌+◌, ◌<◌, ◌≤◌, true, cond, eqb, ltb, List, length, refl, ap, ◌∙◌, arith}
 use Rattle.std.proofs.lemmas.Bool.{and_parts, ltb-true, eqb-true}
-use Rattle.grid.specs.declared.shape.Grid.{Grid}
 use Rattle.net.specs.declared.records.record.Record.{Record}
-use Rattle.net.specs.Proper.{Proper}
 use Rattle.net.specs.Routes.{parent_of, is_child}
-use Rattle.length_rule.specs.Children.{indices, kept, children, sum_over}
+use Rattle.length_rule.specs.Children.{children, sum_over}
 use Rattle.length_rule.specs.Lengths.{own_length, KeepsRule, hanging_in, hanging, entering, LengthsAreTheRule}
 use Rattle.length_rule.specs.Marks.{head_at, trunk_at}
 use Rattle.length_rule.proofs.Sums.{kept_same}

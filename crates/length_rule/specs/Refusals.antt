@@ -1,5 +1,5 @@
 -- What the check of a plan made by hand refuses.
-use Rattle.std.specs.Prelude.{ℕ, Bool, cond, List, [], ◌∷◌, length, Some, None, Option, ◌==◌, nat_le}
+use Rattle.std.specs.Prelude.{ℕ, cond, List, [], ◌∷◌, length, None, Option, ◌==◌, nat_le}
 use Rattle.net.specs.declared.records.record.Record.{Record}
 use Rattle.net.specs.Lowest.{or_else, lowest, unless, fault_told}
 use Rattle.length_rule.specs.declared.PlanFault.{PlanFault}

@@ -1,5 +1,5 @@
 -- What a checked route holds, and what the check answers.
-use Rattle.std.specs.Prelude.{ℕ, List, take, Some, None, Ok, Err, Option, Result}
+use Rattle.std.specs.Prelude.{List, take, Some, None, Ok, Err, Option, Result}
 use Rattle.grid.specs.declared.shape.Grid.{Grid}
 use Rattle.net.specs.declared.records.Route.{Route}
 use Rattle.net.specs.declared.records.record.Record.{Record}

@@ -1,5 +1,5 @@
 -- What the marks say that the check of a route sets as it goes. Only the check's own functions speak of them.
-use Rattle.std.specs.Prelude.{◌≡◌, ℕ, ◌<◌, Bool, false, ◌&&◌, List, length, nat_eq, slice_index_or}
+use Rattle.std.specs.Prelude.{◌≡◌, ℕ, ◌<◌, Bool, false, List, length, nat_eq, slice_index_or}
 use Rattle.net.specs.declared.records.record.Record.{Record}
 use Rattle.net.specs.Lowest.{some_below}
 use Rattle.net.specs.Routes.{tile_of, is_child}

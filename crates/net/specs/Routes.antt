@@ -1,5 +1,5 @@
 -- The records of a net, and which of them are a route on a grid.
-use Rattle.std.specs.Prelude.{ℕ, Bool, true, false, cond, not, ◌&&◌, ◌||◌, List, [], ◌∷◌, length, get_or, Some, None, Option, ◌==◌, nat_eq, nat_le, nat_lt, slice_index_or}
+use Rattle.std.specs.Prelude.{ℕ, Bool, false, cond, not, ◌&&◌, ◌||◌, List, [], ◌∷◌, length, get_or, Some, None, Option, ◌==◌, nat_eq, nat_le, nat_lt, slice_index_or}
 use Rattle.grid.specs.declared.shape.Grid.{Grid}
 use Rattle.grid.specs.Tiles.{has_tile}
 use Rattle.grid.specs.Boundaries.{neighbours}

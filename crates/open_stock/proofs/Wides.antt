@@ -1,5 +1,5 @@
 -- What a wide meaning tells at one place, and what one write leaves of it.
-use Rattle.std.proofs.Common.{◌≡◌, ℕ, zero, suc, ◌<◌, List, [], ◌∷◌, get_or, take, set, replicate, refl, ap, arith, get_or-take}
+use Rattle.std.proofs.Common.{◌≡◌, ℕ, zero, suc, ◌<◌, List, get_or, set, replicate, refl, ap, arith, get_or-take}
 use lib.ListN.{length-replicate}
 use lib.Seq.{take-set-lt}
 use Rattle.stock.specs.Calls.{with_use}

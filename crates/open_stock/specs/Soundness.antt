@@ -1,6 +1,6 @@
 -- The open stock's proof that its meaning is sound. It stands here because an implementation hands it over in its code.
 use Rattle.std.specs.Prelude.{◌≡◌, ℕ, zero, suc, ◌≤◌, List, [], ◌∷◌, length, take, replicate, slice_index}
-use Rattle.std.proofs.Common.{sym, ◌∙◌, zero-le, arith, length-take}
+use Rattle.std.proofs.Common.{zero-le, arith, length-take}
 use Rattle.std.proofs.lemmas.List.{length-replicate}
 use Rattle.stock.specs.Meaning.{Sound, most, most_places}
 use Rattle.open_stock.specs.Wide.{wide}

@@ -1,19 +1,19 @@
 -- The walk from the end: each step keeps what the table of lengths holds, and at the end it holds what hangs.
-use Rattle.std.proofs.Common.{◌≡◌, ℕ, zero, suc, ◌+◌, ◌-◌, ◌<◌, ◌≤◌, Bool, true, false, cond, ◌&&◌, eqb, ltb, ◌⊎◌, List, map, length, get_or, set, replicate, sym, refl, ap, ◌∙◌, subst, inl, inr, ⊎_elim, add-one, arith}
+use Rattle.std.proofs.Common.{◌≡◌, ℕ, zero, suc, ◌+◌, ◌-◌, ◌<◌, ◌≤◌, Bool, true, false, cond, ◌&&◌, eqb, ltb, List, map, length, get_or, set, replicate, sym, refl, ap, ◌∙◌, subst, ⊎_elim, add-one, arith}
 use Rattle.std.specs.List.{range_with_len}
 use Rattle.std.proofs.lemmas.List.FromFn.{fill_by_all}
 use Rattle.std.proofs.lemmas.List.{length-set, length-replicate, get_or-replicate, get_or-set_same, get_or-set_other}
-use Rattle.std.proofs.lemmas.Bool.{and_parts, ltb-true, lt-ltb, eqb-true, eq-eqb, ne_eqb, cases_eq, cases_lt, cases_Bool}
+use Rattle.std.proofs.lemmas.Bool.{and_parts, lt-ltb, eqb-true, eq-eqb, cases_eq, cases_lt, cases_Bool}
 use Rattle.grid.specs.declared.shape.Grid.{Grid}
 use Rattle.net.specs.declared.records.record.Record.{Record}
 use Rattle.net.specs.declared.records.Route.{Route}
 use Rattle.net.specs.Checked.{records_of}
 use Rattle.net.specs.Proper.{Proper}
 use Rattle.net.specs.Routes.{parent_of, is_child, is_route}
-use Rattle.length_rule.specs.Children.{indices, kept, children, sum_over}
-use Rattle.length_rule.specs.Lengths.{own_length, hanging_in, hanging, entering, LengthsAreTheRule}
+use Rattle.length_rule.specs.Children.{indices, sum_over}
+use Rattle.length_rule.specs.Lengths.{hanging_in, hanging}
 use Rattle.length_rule.specs.Marks.{head_at, trunk_at}
-use Rattle.length_rule.proofs.Sums.{sum_kept, sum_none, sum_from, from_first, from_none, from_later}
+use Rattle.length_rule.proofs.Sums.{sum_kept, sum_none, sum_from, from_first, from_later}
 use Rattle.length_rule.proofs.Unique.{child_later, the_rule}
 use Rattle.plan.specs.Walk.{adds, Walked}
 

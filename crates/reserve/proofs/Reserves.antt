@@ -1,5 +1,5 @@
 -- What a reserved meaning tells at one place.
-use Rattle.std.proofs.Common.{◌≡◌, ℕ, ◌≤◌, arith}
+use Rattle.std.proofs.Common.{◌≡◌, ℕ}
 use Rattle.std.proofs.lemmas.List.{length-map}
 use Rattle.stock.specs.Meaning.{Meaning, count, capacity}
 use Rattle.reserve.specs.Reserved.{left, reserved}

@@ -1,7 +1,6 @@
 -- An index has at most four children, and at most three past the driver: each stands in another neighbour of its tile.
-use Rattle.std.proofs.Common.{◌≡◌, ℕ, zero, suc, ◌+◌, ◌-◌, ◌<◌, ◌≤◌, Bool, true, false, cond, ◌&&◌, eqb, ltb, ◌⊎◌, List, [], ◌∷◌, length, sym, refl, ap, ◌∙◌, subst, inl, inr, ⊎_elim, add-one, arith}
-use Rattle.std.proofs.lemmas.Bool.{and_parts, ltb-true, lt-ltb, eqb-true, eq-eqb, ne_eqb, cases_Bool, cases_eq}
-use Rattle.std.proofs.lemmas.Bool.Decides.{nat_tests}
+use Rattle.std.proofs.Common.{◌≡◌, ℕ, zero, suc, ◌+◌, ◌-◌, ◌<◌, ◌≤◌, Bool, true, false, cond, ◌&&◌, eqb, ltb, List, [], ◌∷◌, length, sym, refl, ap, ◌∙◌, subst, ⊎_elim, add-one, arith}
+use Rattle.std.proofs.lemmas.Bool.{and_parts, ltb-true, lt-ltb, eqb-true, eq-eqb, ne_eqb, cases_Bool}
 use Rattle.grid.specs.declared.shape.Grid.{Grid}
 use Rattle.grid.specs.Boundaries.{share_a_side, neighbours}
 use Rattle.grid.specs.Tiles.{number, place, has_tile}
@@ -10,7 +9,7 @@ use Rattle.grid.proofs.Pairs.{four}
 use Rattle.net.specs.declared.records.record.Record.{Record}
 use Rattle.net.specs.Proper.{Proper}
 use Rattle.net.specs.Routes.{tile_of, parent_of, is_child}
-use Rattle.length_rule.specs.Children.{indices, kept, children, sum_over}
+use Rattle.length_rule.specs.Children.{indices, kept, sum_over}
 use Rattle.length_rule.proofs.Sums.{sum_none, sum_one, sum_two}
 use Rattle.length_rule.proofs.Unique.{child_later}
 use Rattle.route_facts.specs.Facts.{child_count, FewChildren}

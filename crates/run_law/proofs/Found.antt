@@ -1,5 +1,5 @@
 -- Planning by what the search finds is planning at a cost type.
-use Rattle.std.proofs.Common.{◌≡◌, ℕ, List, Some, None, Option, sym, refl, ap, ◌∙◌, subst, inl, inr}
+use Rattle.std.proofs.Common.{◌≡◌, ℕ, List, Some, None, Option, refl, ap, subst, inl, inr}
 use Rattle.net.specs.Lowest.{nothing_wrong}
 use Rattle.search_theory.specs.Costs.{Lawful}
 use Rattle.search_theory.specs.Entries.{Priced}
@@ -7,7 +7,7 @@ use Rattle.best_plan.specs.Cheapest.{AnswersBest, HangsTogether}
 use Rattle.best_plan.proofs.Legals.{chosen_best}
 use Rattle.floor_types.specs.declared.faults.PlanningFault.{PlanningFault}
 use Rattle.runs.specs.Worlds.{World, limit_of, route_of}
-use Rattle.runs.specs.Plans.{Prices, spares, prices, chosen_for}
+use Rattle.runs.specs.Plans.{Prices, spares, prices}
 use Rattle.runs.specs.Refusals.{planning_fault}
 use Rattle.runs.specs.Calls.{PlansBy}
 use Rattle.runs.proofs.Accepted.{refusals_exact}

@@ -16,7 +16,7 @@ use Rattle.runs.specs.Worlds.{World, no_place, place_of, limit_of, first_place, 
 use Rattle.runs.specs.Plans.{LegalFor}
 use Rattle.runs.specs.Tables.{SizesKept, NetSound}
 use Rattle.runs.specs.Histories.{NetTold, History, net_told, refiled, filed_in, buffers_filed}
-use Rattle.runs.specs.Runs.{filing, withdrawing, Driven, BookTrue, TablesTell}
+use Rattle.runs.specs.Runs.{Driven, BookTrue, TablesTell}
 use Rattle.run_law.proofs.Rows.{uses_length, uses_at, written_length, written_own, written_other, remarked_length, remarked_route, remarked_marks, remarked_clear}
 use Rattle.run_law.proofs.Nets.{refiled_length, refiled_own, refiled_other, refiled_limit, refiled_path, refiled_buffers, refiled_crossing}
 use Rattle.run_law.proofs.Room.{sites_fit}

@@ -2,7 +2,6 @@
 use Rattle.std.proofs.Common.{◌≡◌, ℕ, zero, suc, ◌+◌, ◌-◌, ◌<◌, ◌≤◌, false, ◌⊎◌, List, [], ◌∷◌, ◌++◌, map, length, get_or, take, drop, sym, refl, ap, ◌∙◌, ⊎_elim, le_of_suc-le-suc, not-suc-le-zero, add-zero, arith}
 use Rattle.std.proofs.lemmas.List.{length-take, length-take-le, length-drop, length-append, get_or-take, get_or-drop, get_or-append_right, ext_get_or, take_at, drop_at, get_or_append_left}
 use Rattle.net.specs.declared.records.record.Record.{Record}
-use Rattle.net.specs.Routes.{no_record}
 use Rattle.floor_types.specs.declared.places.RecordPlace.{RecordPlace}
 use Rattle.runs.specs.Worlds.{record_in, uses_by, written, fresh, remarked}
 

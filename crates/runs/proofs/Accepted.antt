@@ -18,7 +18,7 @@ use Rattle.net.specs.Routes.{most_records, right_count, is_route, tile_of, paren
 use Rattle.net.proofs.Firsts.{or_else_none, unless_none, unless_clear, nothing_none, lowest_none, lowest_clear, some_below_none}
 use Rattle.net.proofs.Properly.{proper_if, route_if}
 use Rattle.length_rule.specs.Gates.{need}
-use Rattle.length_rule.specs.Marks.{mark_at, Plan}
+use Rattle.length_rule.specs.Marks.{mark_at}
 use Rattle.length_rule.specs.Refusals.{mark_fault, plan_fault}
 use Rattle.length_rule.specs.declared.PlanFault.TheVariants.{Mark}
 use Rattle.length_rule.proofs.Accepts.{legal_if, none_if}
@@ -36,7 +36,7 @@ use Rattle.floor_types.specs.declared.faults.FilingFault.TheVariants as Filing
 use Rattle.floor_types.specs.declared.faults.WithdrawalFault.{WithdrawalFault}
 use Rattle.floor_types.specs.declared.faults.WithdrawalFault.TheVariants as Withdrawal
 use Rattle.floor_types.specs.declared.faults.QuestionFault.TheVariants as Question
-use Rattle.runs.specs.Worlds.{World, Waits, limit_of, count_of, is_planned, rows_of, record_in, route_of, marks_of, crossed_at}
+use Rattle.runs.specs.Worlds.{World, limit_of, count_of, is_planned, rows_of, record_in, route_of, marks_of, crossed_at}
 use Rattle.runs.specs.Plans.{spares}
 use Rattle.runs.specs.Tables.{SizesKept, NetSound, TablesSound, sizes_kept, limit_fits, marks_fit, some_mark, net_sound, table_fault}
 use Rattle.runs.specs.Refusals.{carried, most_net_places, tables_fit, opening_fault, wire_fault, entry_fault, cells_needed, planning_fault, filing_fault, giving_fault, withdrawal_fault, question_fault}

@@ -13,7 +13,6 @@ use Rattle.floor_types.specs.declared.places.RecordPlace.{RecordPlace}
 use Rattle.floor_types.specs.declared.faults.OpeningFault.{OpeningFault}
 use Rattle.floor_types.specs.declared.faults.OpeningFault.TheVariants as Opening
 use Rattle.floor_types.specs.declared.faults.PlanningFault.{PlanningFault}
-use Rattle.floor_types.specs.declared.faults.PlanningFault.TheVariants as Planning
 use Rattle.runs.specs.Worlds.{World, with_net, with_plan, without_plan, marks_of}
 use Rattle.runs.specs.Plans.{Prices, Choice, chosen_for, cost_for, LegalFor}
 use Rattle.runs.specs.Refusals.{opening_fault, planning_fault, filing_fault}

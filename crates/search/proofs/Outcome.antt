@@ -1,5 +1,5 @@
 -- What the rows and the handed marks come to: the plan that is chosen.
-use Rattle.std.proofs.Common.{◌≡◌, ℕ, suc, ◌+◌, ◌<◌, ◌≤◌, true, false, cond, eqb, ltb, List, [], ◌∷◌, ◌++◌, length, get_or, is_ok, Some, None, Ok, Err, Option, Result, sym, refl, ap, ◌∙◌, subst, arith}
+use Rattle.std.proofs.Common.{◌≡◌, ℕ, suc, ◌+◌, ◌<◌, ◌≤◌, true, false, cond, eqb, ltb, List, [], ◌∷◌, length, get_or, is_ok, Some, None, Ok, Err, Option, Result, sym, refl, ap, ◌∙◌, subst, arith}
 use Rattle.std.proofs.lemmas.List.{ext_get_or}
 use Rattle.std.proofs.lemmas.Bool.Decides.{nat_tests}
 use Rattle.refusal.specs.Told.{told_by}
@@ -16,7 +16,7 @@ use Rattle.search_theory.specs.Costs.{Kind}
 use Rattle.search_theory.specs.Entries.{Priced}
 use Rattle.search_theory.specs.Joining.{best_entry}
 use Rattle.search_theory.specs.Layouts.{Problem, Rooted}
-use Rattle.search_theory.specs.Search.{row, answered, found, layout_of, handed_down}
+use Rattle.search_theory.specs.Search.{row, answered, layout_of, handed_down}
 use Rattle.search_theory.proofs.Costs.{no_test}
 use Rattle.search_theory.proofs.Handed.{layout_same}
 use Rattle.search.specs.declared.fault.SearchFault.{SearchFault}

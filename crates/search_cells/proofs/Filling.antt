@@ -1,5 +1,5 @@
 -- A table in cells, filled child by child.
-use Rattle.std.proofs.Common.{◌≡◌, ℕ, zero, suc, ◌+◌, ◌-◌, ◌*◌, ◌<◌, ◌≤◌, Bool, true, false, cond, ◌&&◌, eqb, ltb, leb, ◌≢◌, ◌⊎◌, List, [], ◌∷◌, map, length, get_or, set, Some, None, Option, sym, refl, ap, ◌∙◌, subst, inl, inr, zero-le, eq-or-lt_of_le, add-one, arith, get_or-set_other, get_or-set_same}
+use Rattle.std.proofs.Common.{◌≡◌, ℕ, zero, suc, ◌+◌, ◌-◌, ◌*◌, ◌<◌, ◌≤◌, Bool, true, false, cond, ◌&&◌, eqb, ◌≢◌, ◌⊎◌, List, [], ◌∷◌, map, length, get_or, set, Some, None, Option, sym, refl, ap, ◌∙◌, subst, inl, inr, zero-le, eq-or-lt_of_le, add-one, arith, get_or-set_other, get_or-set_same}
 use Rattle.std.proofs.lemmas.Bool.Decides.{nat_tests, eqb_tells}
 use Rattle.search_cells.specs.Cells.{no_leg, branch_of, listed, as_joined, table_of, HasRoom}
 use Rattle.search_cells.specs.declared.Entry.{Entry}
@@ -8,7 +8,7 @@ use Rattle.search_theory.specs.Costs.{Kind, below}
 use Rattle.search_theory.specs.Entries.{Priced, cheaper, cheapest, Row, given, Each}
 use Rattle.search_theory.specs.Joining.{Branch, Table, start, tagged, join, charged, best_entry, headed, step, table}
 use Rattle.search_theory.specs.Search.{no_branch}
-use Rattle.search_theory.specs.Tree.{keep, child}
+use Rattle.search_theory.specs.Tree.{keep}
 use Rattle.search_cells.proofs.Inplace.{rows_apart}
 use Rattle.search_cells.proofs.Legs.{length_listed}
 use Rattle.search_cells.proofs.Turns.{cheapest_same}

@@ -1,5 +1,5 @@
 -- One child more, joined in place: what is written does not touch what is still to be read.
-use Rattle.std.proofs.Common.{◌≡◌, ℕ, zero, suc, ◌+◌, ◌-◌, ◌*◌, ◌<◌, ◌≤◌, Bool, true, false, cond, ltb, ◌≢◌, ◌⊎◌, List, [], ◌∷◌, length, get_or, set, Some, None, Option, sym, refl, ap, ◌∙◌, subst, inl, inr, mul-le-mul_right, suc-mul, eq-or-lt_of_le, arith, get_or-set_other, get_or-set_same, lt-ltb}
+use Rattle.std.proofs.Common.{◌≡◌, ℕ, zero, suc, ◌+◌, ◌-◌, ◌*◌, ◌<◌, ◌≤◌, Bool, true, false, cond, ltb, ◌≢◌, ◌⊎◌, List, length, get_or, set, None, Option, sym, refl, ap, ◌∙◌, subst, inl, inr, mul-le-mul_right, suc-mul, eq-or-lt_of_le, arith, get_or-set_other, get_or-set_same, lt-ltb}
 use Rattle.search_cells.specs.Cells.{as_joined, as_chosen, row_at, table_at, table_of, joined_row}
 use Rattle.search_cells.specs.declared.Entry.{Entry}
 use Rattle.search_theory.specs.Costs.{Kind}

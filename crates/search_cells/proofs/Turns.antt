@@ -1,5 +1,5 @@
 -- A turn of a loop for the cheapest of several.
-use Rattle.std.proofs.Common.{◌≡◌, ℕ, zero, suc, ◌+◌, ◌<◌, ◌≤◌, ◌⊎◌, Some, None, Option, sym, refl, ap, ◌∙◌, inl, inr, add-one, arith}
+use Rattle.std.proofs.Common.{◌≡◌, ℕ, zero, suc, ◌+◌, ◌<◌, Option, sym, refl, ap, ◌∙◌, add-one, arith}
 use Rattle.search_theory.specs.Costs.{Kind}
 use Rattle.search_theory.specs.Entries.{Priced, cheaper, cheapest}
 

@@ -1,7 +1,7 @@
 -- A row in cells is the row of the search.
-use Rattle.std.proofs.Common.{◌≡◌, ℕ, zero, suc, ◌+◌, ◌-◌, ◌*◌, ◌<◌, ◌≤◌, Bool, true, false, cond, ◌&&◌, eqb, ltb, leb, ◌≢◌, ◌⊎◌, List, [], ◌∷◌, map, length, get_or, set, Some, None, Option, sym, refl, ap, ◌∙◌, subst, inl, inr, arith}
+use Rattle.std.proofs.Common.{◌≡◌, ℕ, ◌<◌, ◌≤◌, ltb, ◌⊎◌, map, length, sym, ap, ◌∙◌, inl, inr, arith}
 use Rattle.std.proofs.lemmas.Bool.Decides.{leb_tells}
-use Rattle.search_cells.specs.Cells.{five_rows, Searchable}
+use Rattle.search_cells.specs.Cells.{five_rows}
 use Rattle.search_theory.specs.Costs.{Kind}
 use Rattle.search_theory.specs.Entries.{Row}
 use Rattle.search_theory.specs.Joining.{Choice, Table, table, finish}

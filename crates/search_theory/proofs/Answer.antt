@@ -1,5 +1,5 @@
 -- The search is right.
-use Rattle.std.proofs.Common.{◌≡◌, ℕ, zero, suc, ◌+◌, ◌<◌, ◌≤◌, Bool, true, false, cond, ◌&&◌, eqb, ltb, ◌⊎◌, List, [], ◌∷◌, map, length, Some, None, Option, sym, refl, ap, ◌∙◌, subst, inl, inr, arith}
+use Rattle.std.proofs.Common.{◌≡◌, ℕ, zero, suc, ◌+◌, ◌<◌, ◌≤◌, Bool, true, false, cond, eqb, ltb, List, [], ◌∷◌, map, length, Some, None, Option, sym, refl, ap, ◌∙◌, subst, inl, inr, arith}
 use mathlib.Core.Path.{fun_ext}
 use Rattle.std.proofs.lemmas.Bool.Decides.{nat_tests, eqb_tells}
 use Rattle.search_theory.specs.Costs.{Kind, Lawful, below, total}
@@ -8,13 +8,13 @@ use Rattle.search_theory.specs.Joining.{Branch, Choice, best_entry}
 use Rattle.search_theory.specs.Layouts.{Problem, Rooted, kids, Layout, over, needs, Legal, layout_cost}
 use Rattle.search_theory.specs.Search.{fork, row, no_branch, no_choice, choice_for, handed_down, layout_of, answered, found, Right}
 use Rattle.search_theory.specs.Tree.{keep, child}
-use Rattle.search_theory.proofs.Branches.{branch, stands_needed, heads_branches, loose_branches, rival}
+use Rattle.search_theory.proofs.Branches.{branch, stands_needed, loose_branches, rival}
 use Rattle.search_theory.proofs.Climb.{map_keep, climb_filled, climb_one}
 use Rattle.search_theory.proofs.Costs.{no_test, costs, sum_same, no_more_trans}
 use Rattle.search_theory.proofs.Gather.{child_later, child_parent}
 use Rattle.search_theory.proofs.Handed.{handed_first, handed_next}
 use Rattle.search_theory.proofs.Induction.{Rule, tree_fits, tree_cost}
-use Rattle.search_theory.proofs.Infinite.{NoMore, worth, Has, cost_or, enterings, heads, loose_length, Driven}
+use Rattle.search_theory.proofs.Infinite.{NoMore, worth, Has, cost_or, enterings, loose_length, Driven}
 use Rattle.search_theory.proofs.Joined.{best_entry_least, best_entry_stands, Entry}
 use Rattle.search_theory.proofs.Local.{standing, Fits, buffer_rule}
 use Rattle.search_theory.proofs.Rebuild.{given_map, length_map, has_worth, has_taken, tied, all_has}

@@ -1,7 +1,7 @@
 -- What code that keeps its rows in cells goes by: no table has more head buffers than children, no row an entry past the
 -- limit, and none matters past them.
-use Rattle.std.proofs.Common.{◌≡◌, ℕ, zero, suc, ◌+◌, ◌-◌, ◌<◌, ◌≤◌, Bool, true, false, cond, ◌&&◌, eqb, ltb, leb, ◌⊎◌, List, [], ◌∷◌, map, length, Some, None, Option, sym, refl, ap, ◌∙◌, subst, inl, inr, arith}
-use Rattle.std.proofs.lemmas.Bool.Decides.{nat_tests, eqb_tells}
+use Rattle.std.proofs.Common.{◌≡◌, ℕ, zero, suc, ◌+◌, ◌-◌, ◌<◌, ◌≤◌, true, false, cond, ◌&&◌, eqb, leb, List, [], ◌∷◌, length, Some, None, Option, refl, ap, ◌∙◌, arith}
+use Rattle.std.proofs.lemmas.Bool.Decides.{nat_tests}
 use Rattle.search_theory.specs.Costs.{Kind}
 use Rattle.search_theory.specs.Entries.{Priced, cheaper, cheapest, Row}
 use Rattle.search_theory.specs.Joining.{Choice, tagged, join, charged, best_entry, headed, table}

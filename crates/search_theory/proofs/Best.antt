@@ -1,5 +1,5 @@
 -- The cheapest of several costs no more than any, and is one of them.
-use Rattle.std.proofs.Common.{◌≡◌, ℕ, zero, suc, ◌<◌, ◌≤◌, Bool, true, false, cond, ◌⊎◌, List, [], ◌∷◌, Some, None, Option, sym, refl, ap, ◌∙◌, subst, inl, inr, eq-or-lt_of_le, arith}
+use Rattle.std.proofs.Common.{◌≡◌, ℕ, zero, suc, ◌<◌, Bool, true, false, cond, ◌⊎◌, Some, None, Option, sym, refl, subst, inl, inr, eq-or-lt_of_le, arith}
 use Rattle.search_theory.specs.Costs.{Kind, Lawful}
 use Rattle.search_theory.specs.Entries.{Priced, cheaper, cheapest, Each}
 use Rattle.search_theory.proofs.Costs.{refl_at_most, no_more_refl, no_more_trans, total_other}

@@ -1,5 +1,5 @@
 -- A value for each index from those of its children: there is one, and only one.
-use Rattle.std.proofs.Common.{◌≡◌, ℕ, zero, suc, ◌+◌, ◌<◌, ◌≤◌, Bool, true, false, cond, List, [], ◌∷◌, map, sym, refl, ap, ◌∙◌, arith}
+use Rattle.std.proofs.Common.{◌≡◌, ℕ, zero, suc, ◌+◌, ◌<◌, ◌≤◌, Bool, true, false, cond, List, ◌∷◌, map, sym, refl, ap, ◌∙◌, arith}
 use Rattle.search_theory.specs.Costs.{below}
 use Rattle.search_theory.specs.Tree.{keep, child, children, climb}
 use Rattle.search_theory.proofs.Gather.{child_later}

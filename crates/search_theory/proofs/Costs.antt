@@ -1,5 +1,5 @@
 -- What the laws give of sums, and of costs with `None` for what cannot be had.
-use Rattle.std.proofs.Common.{◌≡◌, ℕ, zero, suc, ◌<◌, ◌≤◌, Bool, true, false, cond, ◌⊎◌, List, [], ◌∷◌, Some, None, Option, sym, refl, ap, ◌∙◌, subst, inl, inr, ⊎_elim, arith}
+use Rattle.std.proofs.Common.{◌≡◌, ℕ, zero, suc, ◌<◌, Bool, true, false, List, [], ◌∷◌, Some, None, Option, sym, refl, ap, ◌∙◌, subst, ⊎_elim, arith}
 use Rattle.search_theory.specs.Costs.{Kind, Lawful, below, sum}
 use Rattle.search_theory.proofs.Infinite.{add, NoMore}
 

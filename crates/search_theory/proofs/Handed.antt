@@ -1,9 +1,9 @@
 -- The lengths handed down: the driver has its own, and each other index what its parent's choice hands it.
-use Rattle.std.proofs.Common.{◌≡◌, ℕ, zero, suc, ◌<◌, ◌≤◌, Bool, true, false, cond, eqb, ◌⊎◌, sym, refl, ap, ◌∙◌, inl, inr, arith}
+use Rattle.std.proofs.Common.{◌≡◌, ℕ, zero, suc, ◌<◌, ◌≤◌, Bool, true, false, cond, eqb, sym, refl, ap, ◌∙◌, inl, inr, arith}
 use Rattle.std.proofs.lemmas.Bool.Decides.{nat_tests, eqb_tells}
 use Rattle.search_theory.specs.Entries.{Row, given, what_or}
 use Rattle.search_theory.specs.Joining.{Branch, Choice}
-use Rattle.search_theory.specs.Layouts.{Problem, Rooted, kids, Layout}
+use Rattle.search_theory.specs.Layouts.{Problem, Rooted, kids}
 use Rattle.search_theory.specs.Search.{no_branch, no_choice, choice_for, handed_down, layout_of}
 
 module _ {C : Type 0} (N : Problem C) (root : Rooted N) (r : ℕ → Row C Choice) (e : ℕ) where

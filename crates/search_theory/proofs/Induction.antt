@@ -1,6 +1,5 @@
 -- From what is best at one index to what is best in the whole tree, whatever the rule at one index is.
-use Rattle.std.proofs.Common.{◌≡◌, ℕ, zero, suc, ◌<◌, ◌≤◌, Bool, true, false, cond, ◌&&◌, eqb, ltb, List, [], ◌∷◌, map, length, Some, None, Option, sym, refl, ap, ◌∙◌, subst, arith}
-use Rattle.std.proofs.lemmas.Bool.Decides.{nat_tests}
+use Rattle.std.proofs.Common.{◌≡◌, ℕ, ◌<◌, List, [], ◌∷◌, map, Some, sym, refl, ap, ◌∙◌, subst}
 use Rattle.search_theory.specs.Costs.{Kind, Lawful, below, sum, total}
 use Rattle.search_theory.specs.Entries.{Row, Each}
 use Rattle.search_theory.specs.Tree.{children}

@@ -1,5 +1,5 @@
 -- Costs with `None` for what cannot be had, and the vocabulary of the proofs about branches.
-use Rattle.std.proofs.Common.{◌≡◌, ℕ, suc, ◌+◌, ◌<◌, Bool, true, false, cond, List, [], ◌∷◌, Some, None, Option}
+use Rattle.std.proofs.Common.{◌≡◌, ℕ, suc, ◌+◌, ◌<◌, true, cond, List, [], ◌∷◌, Some, None, Option}
 use Rattle.search_theory.specs.Costs.{Kind}
 use Rattle.search_theory.specs.Entries.{Priced, Row}
 use Rattle.search_theory.specs.Joining.{Branch}

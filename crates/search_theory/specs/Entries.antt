@@ -1,5 +1,5 @@
 -- What the search keeps: values with what they cost, or nothing at all where no plan leads; and the cheapest of several.
-use Rattle.std.specs.Prelude.{ℕ, zero, suc, Bool, true, false, cond, List, [], ◌∷◌, Some, None, Option, ◌==◌}
+use Rattle.std.specs.Prelude.{ℕ, zero, suc, cond, List, [], ◌∷◌, Some, None, Option, ◌==◌}
 use Rattle.search_theory.specs.Costs.{Kind}
 
 -- a value with what it costs

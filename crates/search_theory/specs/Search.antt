@@ -1,11 +1,11 @@
 -- The search over a whole net, and what is claimed of it: the layout that it answers is legal and no legal layout costs
 -- less, and it answers none only where no layout is legal.
 use Rattle.std.specs.Prelude.{◌≡◌, ℕ, zero, suc, true, false, cond, List, [], Some, None, Option, ◌==◌, nat_lt}
-use Rattle.search_theory.specs.Costs.{Kind, Lawful}
+use Rattle.search_theory.specs.Costs.{Kind}
 use Rattle.search_theory.specs.Tree.{climb}
 use Rattle.search_theory.specs.Entries.{Priced, Row, given, what_or}
 use Rattle.search_theory.specs.Joining.{Branch, Choice, table, finish, best_entry}
-use Rattle.search_theory.specs.Layouts.{Problem, Rooted, kids, Buffers, Layout, Legal, layout_cost}
+use Rattle.search_theory.specs.Layouts.{Problem, Rooted, kids, Layout, Legal, layout_cost}
 
 -- the row of an index from those of its children; the driver has no trunk buffer
 abbrev pub fork : {C : Type 0} → Kind C → Problem C → ℕ → List (Row C Choice) → Row C Choice

@@ -1,5 +1,5 @@
 -- The tree of a net by its parents, and values that climb it.
-use Rattle.std.specs.Prelude.{ℕ, zero, suc, Bool, true, false, cond, ◌&&◌, List, [], ◌∷◌, map, ◌==◌, nat_lt}
+use Rattle.std.specs.Prelude.{ℕ, zero, suc, Bool, cond, ◌&&◌, List, [], ◌∷◌, map, ◌==◌, nat_lt}
 use Rattle.search_theory.specs.Costs.{below}
 
 -- those of a list that pass a test

@@ -1,6 +1,6 @@
 -- The share of a tile is at most one unit for each net that waits there.
-use Rattle.std.proofs.Common.{ℕ, ◌*◌, ◌≤◌, List, [], ◌∷◌, length, suc-mul, div-le_self, arith}
-use Rattle.shares.specs.Shares.{AtMostOneEach, waiting_share}
+use Rattle.std.proofs.Common.{ℕ, [], ◌∷◌, length, suc-mul, div-le_self, arith}
+use Rattle.shares.specs.Shares.{AtMostOneEach}
 
 pub bounded : (unit : ℕ) → AtMostOneEach unit
 bounded unit [] = omega arith

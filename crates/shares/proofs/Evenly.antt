@@ -1,5 +1,5 @@
 -- A unit that passes one test for each limit up to the largest is divided exactly by each.
-use Rattle.std.proofs.Common.{◌≡◌, ℕ, zero, suc, ◌*◌, ◌/◌, ◌<◌, ◌≤◌, Bool, true, false, ◌&&◌, eqb, sym, refl, subst, ⊎_elim, arith}
+use Rattle.std.proofs.Common.{◌≡◌, ℕ, zero, suc, ◌*◌, ◌/◌, Bool, true, ◌&&◌, eqb, refl, subst, ⊎_elim, arith}
 use Rattle.std.proofs.lemmas.Bool.{eqb-true, and_parts, cases_lt}
 use Rattle.net.specs.Largest.{largest_limit}
 use Rattle.shares.specs.Shares.{Exact, share_of, share_unit}

@@ -1,5 +1,5 @@
 -- Where nothing is spare, nothing is taken.
-use Rattle.std.proofs.Common.{◌≡◌, ℕ, ◌+◌, Bool, true, false, cond, List, set, refl, ap, ◌∙◌, arith}
+use Rattle.std.proofs.Common.{◌≡◌, ℕ, ◌+◌, Bool, true, false, cond, List, refl, ap, ◌∙◌, arith}
 use lib.Seq.{set-get_or}
 use Rattle.stock.specs.Calls.{exists, with_use}
 use Rattle.stock.specs.Meaning.{Meaning, spare, used}

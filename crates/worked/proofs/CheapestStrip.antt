@@ -1,12 +1,12 @@
 -- The cheapest plan of the worked strip: the search finds the cost, and what it finds is cheapest.
-use Rattle.std.proofs.Common.{◌≡◌, ℕ, zero, suc, ◌+◌, ◌<◌, ◌≤◌, Bool, true, false, cond, leb, ◌⊎◌, List, [], ◌∷◌, length, Some, None, Option, sym, refl, subst, inl, inr, add_assoc, add_comm, zero-add, arith, lit≤}
+use Rattle.std.proofs.Common.{◌≡◌, ℕ, zero, suc, ◌<◌, List, [], ◌∷◌, Some, None, Option, refl, subst, inl, inr, add_assoc, add_comm, zero-add, arith, lit≤}
 use Rattle.std.proofs.lemmas.Bool.Decides.{nat_tests, leb_tells}
 use Rattle.net.specs.declared.records.record.Record.{Record}
 use Rattle.net.specs.Routes.{parent_of}
 use Rattle.search_theory.specs.Costs.{Lawful}
 use Rattle.search_theory.specs.Entries.{Priced}
 use Rattle.best_plan.specs.Chosen.{chosen}
-use Rattle.best_plan.specs.Cheapest.{Cheapest, AnswersBest, HangsTogether}
+use Rattle.best_plan.specs.Cheapest.{Cheapest, AnswersBest}
 use Rattle.best_plan.proofs.Legals.{chosen_best}
 use Rattle.worked.specs.Examples.{sums, path}
 

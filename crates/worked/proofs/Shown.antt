@@ -1,8 +1,7 @@
 -- Each worked example, by what the definitions and the check compute of it.
-use Rattle.std.proofs.Common.{◌≡◌, ℕ, zero, suc, ◌<◌, ◌≤◌, Bool, true, false, not, ◌&&◌, List, [], ◌∷◌, length, drop, Some, None, Option, sym, refl, ap, ◌∙◌, subst, arith}
+use Rattle.std.proofs.Common.{◌≡◌, ℕ, zero, suc, ◌<◌, ◌≤◌, Bool, true, false, not, ◌&&◌, List, [], ◌∷◌, length, drop, sym, refl, ap, subst, arith}
 use Rattle.std.specs.List.{AllByRecursion as All}
 use Rattle.std.proofs.lemmas.Bool.{and_parts, both_ways, not-true}
-use Rattle.grid.specs.declared.shape.Grid.{Grid}
 use Rattle.net.specs.declared.records.record.Record.{Record}
 use Rattle.net.specs.Lowest.{nothing_wrong}
 use Rattle.net.proofs.Properly.{proper_if}

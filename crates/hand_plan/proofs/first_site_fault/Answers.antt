@@ -1,6 +1,5 @@
-use Rattle.std.proofs.Common.{◌≡◌, ℕ, ◌<◌, ◌≤◌, Bool, true, false, leb, List, length, get_or, Some, None, Option, sym, ap, ◌∙◌, subst, arith}
+use Rattle.std.proofs.Common.{◌≡◌, ℕ, ◌<◌, ◌≤◌, Bool, leb, length, Some, None, sym, ap, subst, arith}
 use Rattle.std.proofs.lemmas.Bool.{le-leb, lt-leb}
-use Rattle.net.specs.declared.records.record.Record.{Record}
 use Rattle.net.specs.Checked.{records_of}
 use Rattle.net.specs.Lowest.{lowest, unless}
 use Rattle.net.proofs.Firsts.{lowest_found, lowest_more, unless_clear}

@@ -1,8 +1,5 @@
-use Rattle.std.proofs.Common.{◌≡◌, ◌++◌, Option, sym, ap, ◌∙◌}
-use Rattle.net.specs.Lowest.{or_else}
-use Rattle.length_rule.specs.declared.PlanFault.{PlanFault}
+use Rattle.std.proofs.Common.{◌++◌}
 use Rattle.length_rule.specs.Gates.{there}
-use Rattle.length_rule.specs.Refusals.{over_limit}
 use Rattle.hand_plan.proofs.Scanning.{over_append}
 use Rattle.hand_plan.proofs.gates_fault.Goals as goal
 

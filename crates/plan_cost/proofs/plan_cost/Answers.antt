@@ -1,6 +1,6 @@
-use Rattle.std.proofs.Common.{◌≡◌, ℕ, ◌<◌, length, get_or, sym, ap, ◌∙◌, subst, add-one, arith}
+use Rattle.std.proofs.Common.{◌≡◌, ◌<◌, length, get_or, sym, ap, ◌∙◌, add-one, arith}
 use Rattle.net.specs.Checked.{records_of}
-use Rattle.length_rule.specs.Costs.{price_at, tile_cost, cost_below, plan_cost}
+use Rattle.length_rule.specs.Costs.{tile_cost, cost_below}
 use Rattle.length_rule.specs.Gates.{need}
 use Rattle.plan.proofs.Tallying.{need_told}
 use Rattle.plan_cost.proofs.plan_cost.Goals as wants

@@ -1,5 +1,5 @@
-use Rattle.std.proofs.Common.{◌≡◌, ℕ, sym, ap, ◌∙◌, add-one}
-use Rattle.length_rule.specs.Costs.{kth_price, tile_cost}
+use Rattle.std.proofs.Common.{sym, ap, ◌∙◌, add-one}
+use Rattle.length_rule.specs.Costs.{tile_cost}
 use Rattle.plan_cost.proofs.tile_cost.Goals as goal
 
 pub loop-k-preserved : goal.loop-k-preserved

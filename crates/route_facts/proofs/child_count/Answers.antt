@@ -1,8 +1,7 @@
-use Rattle.std.proofs.Common.{◌≡◌, ℕ, ◌≤◌, true, false, List, length, sym, refl, ap, ◌∙◌, subst, arith}
+use Rattle.std.proofs.Common.{◌≡◌, ℕ, ◌≤◌, true, false, List, length, refl, ap, ◌∙◌, arith}
 use Rattle.std.proofs.lemmas.Bool.{eq-eqb, ne_eqb}
 use Rattle.net.specs.declared.records.record.Record.{Record}
 use Rattle.net.specs.Checked.{records_of}
-use Rattle.net.specs.Proper.{Proper}
 use Rattle.net.specs.Routes.{parent_of, is_child}
 use Rattle.net.proofs.Properly.{proper_if}
 use Rattle.length_rule.specs.Children.{indices, kept}

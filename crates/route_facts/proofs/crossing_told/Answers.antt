@@ -1,4 +1,4 @@
-use Rattle.std.proofs.Common.{◌≡◌, List, sym, subst, arith}
+use Rattle.std.proofs.Common.{List, sym, subst, arith}
 use Rattle.net.specs.declared.records.record.Record.{Record}
 use Rattle.net.specs.Checked.{records_of}
 use Rattle.net.specs.Proper.{Proper}

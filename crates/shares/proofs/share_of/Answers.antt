@@ -1,4 +1,4 @@
-use Rattle.std.proofs.Common.{◌≡◌, ℕ, ◌+◌, ◌*◌, sym, ap, subst}
+use Rattle.std.proofs.Common.{ℕ, ◌+◌, sym, ap, subst}
 use Rattle.shares.proofs.Bound.{bounded}
 use Rattle.shares.proofs.Evenly.{exact}
 use Rattle.net.specs.Largest.{largest_limit}

@@ -1,9 +1,8 @@
-use Rattle.std.proofs.Common.{◌≡◌, ℕ, ◌+◌, ◌-◌, ◌<◌, ◌≤◌, true, List, map, length, sym, refl, ap, ◌∙◌, subst, arith}
+use Rattle.std.proofs.Common.{◌≡◌, ℕ, ◌+◌, ◌-◌, List, map, sym, refl, ap, ◌∙◌, subst, arith}
 use Rattle.std.specs.List.{range_with_len}
 use Rattle.net.specs.declared.records.record.Record.{Record}
 use Rattle.net.specs.Checked.{records_of}
 use Rattle.net.specs.Proper.{Proper}
-use Rattle.net.specs.Routes.{is_route}
 use Rattle.net.proofs.Properly.{proper_if}
 use Rattle.length_rule.specs.Lengths.{hanging}
 use Rattle.length_rule.proofs.Unique.{the_rule}

@@ -1,4 +1,4 @@
-use Rattle.std.proofs.Common.{◌≡◌, ℕ, ◌+◌, ◌<◌, ◌≤◌, cond, List, length, get_or, set, sym, ap, ◌∙◌, subst, arith}
+use Rattle.std.proofs.Common.{◌≡◌, ℕ, ◌+◌, cond, get_or, set, sym, ap, ◌∙◌, subst, arith}
 use Rattle.net.specs.Routes.{parent_of}
 use Rattle.length_rule.specs.Marks.{has_head, has_trunk, head_at, trunk_at}
 use Rattle.net.proofs.Properly.{proper_if}

@@ -1,5 +1,4 @@
-use Rattle.std.proofs.Common.{◌≡◌, ℕ, ◌+◌, ◌<◌, ◌≤◌, Bool, true, false, cond, eqb, List, length, get_or, sym, refl, ap, ◌∙◌, subst, arith}
-use Rattle.net.specs.Proper.{Proper}
+use Rattle.std.proofs.Common.{◌≡◌, ℕ, ◌+◌, ◌≤◌, Bool, true, false, cond, eqb, List, length, get_or, sym, ap, ◌∙◌, subst, arith}
 use Rattle.net.specs.Routes.{parent_of}
 use Rattle.net.proofs.Properly.{proper_if}
 use Rattle.length_rule.specs.Marks.{has_head, has_trunk, head_at, trunk_at}

@@ -1,5 +1,5 @@
 -- Each index is linked to its parent, whose children so far are its siblings before it.
-use Rattle.std.proofs.Common.{◌≡◌, ℕ, ◌<◌, length, get_or, arith}
+use Rattle.std.proofs.Common.{◌≡◌, ◌<◌, length, get_or, arith}
 use Rattle.net.specs.Routes.{parent_of}
 use Rattle.search_cells.specs.Families.{rank_of}
 use Rattle.search_cells.proofs.Inplace.{first_only, set_more}

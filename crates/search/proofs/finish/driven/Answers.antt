@@ -1,4 +1,4 @@
-use Rattle.std.proofs.Common.{◌≡◌, suc, ◌+◌, ◌<◌, ap, ◌∙◌}
+use Rattle.std.proofs.Common.{suc, ◌+◌, ap, ◌∙◌}
 use Rattle.length_rule.specs.Costs.{kth_price}
 use Rattle.search_cells.specs.Cells.{kind, as_joined, table_at, table_of}
 use Rattle.search_theory.specs.Entries.{cheapest}

@@ -1,4 +1,4 @@
-use Rattle.std.proofs.Common.{◌≡◌, ℕ, suc, ◌+◌, ◌*◌, ◌<◌, ◌≤◌, Bool, cond, eqb, length, get_or, None, sym, refl, ap, ◌∙◌, arith, rules}
+use Rattle.std.proofs.Common.{◌≡◌, ℕ, ◌+◌, ◌*◌, ◌<◌, cond, eqb, length, None, refl, ap, ◌∙◌, arith, rules}
 use Rattle.length_rule.specs.Costs.{kth_price}
 use Rattle.search_cells.specs.Cells.{kind, as_joined, as_chosen, table_of, five_rows}
 use Rattle.search_theory.specs.Entries.{cheaper}

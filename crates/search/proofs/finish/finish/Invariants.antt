@@ -1,4 +1,4 @@
-use Rattle.std.proofs.Common.{◌≡◌, ℕ, ◌+◌, ◌<◌, ◌≤◌, cond, eqb, length, get_or, None}
+use Rattle.std.proofs.Common.{◌≡◌, ℕ, ◌+◌, ◌<◌, cond, eqb, get_or, None}
 use Rattle.search_cells.specs.Cells.{kind, as_chosen, row_at, table_of, five_rows}
 use Rattle.search_theory.specs.Entries.{cheaper}
 use Rattle.search_theory.specs.Joining.{plain}

@@ -1,4 +1,4 @@
-use Rattle.std.proofs.Common.{◌≡◌, ◌+◌, true, cond, None, sym, ap, ◌∙◌}
+use Rattle.std.proofs.Common.{◌+◌, true, cond, None, sym, ap, ◌∙◌}
 use Rattle.length_rule.specs.Costs.{kth_price}
 use Rattle.search_cells.specs.Cells.{kind, table_of, five_rows}
 use Rattle.search_theory.specs.Joining.{chosen, trunked}

@@ -1,14 +1,13 @@
 -- The driver's length is its own, and each other index gets what its parent's choice hands it.
-use Rattle.std.proofs.Common.{◌≡◌, ℕ, ◌+◌, ◌<◌, ◌≤◌, Bool, true, false, List, [], length, get_or, sym, refl, ap, ◌∙◌, subst, arith, length-set}
+use Rattle.std.proofs.Common.{◌≡◌, ℕ, ◌<◌, false, List, [], length, get_or, sym, ap, ◌∙◌, arith, length-set}
 use Rattle.net.specs.declared.records.record.Record.{Record}
 use Rattle.net.specs.Routes.{parent_of}
 use Rattle.best_plan.specs.Chosen.{problem, mark_of}
 use Rattle.search_cells.specs.Cells.{kind, branch_of, rows_within, Searchable}
 use Rattle.search_cells.proofs.Inplace.{first_only, set_more}
 use Rattle.search_theory.specs.Costs.{Kind}
-use Rattle.search_theory.specs.Entries.{what_or}
 use Rattle.search_theory.specs.Layouts.{Rooted}
-use Rattle.search_theory.specs.Search.{no_choice, choice_for, handed_down}
+use Rattle.search_theory.specs.Search.{choice_for, handed_down}
 use Rattle.search_theory.proofs.Handed.{handed_first, handed_next, layout_first, layout_next}
 use Rattle.search.specs.Rows.{handed_mark}
 use Rattle.search.proofs.marks.hand_down.Goals as goal

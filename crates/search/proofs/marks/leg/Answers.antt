@@ -1,4 +1,4 @@
-use Rattle.std.proofs.Common.{◌≡◌, ℕ, ◌+◌, ◌<◌, ◌≤◌, [], length, get_or, sym, refl, ap, ◌∙◌, subst, arith}
+use Rattle.std.proofs.Common.{◌<◌, [], length, get_or, ap, ◌∙◌, arith}
 use Rattle.net.specs.Routes.{parent_of}
 use Rattle.best_plan.specs.Chosen.{problem}
 use Rattle.search_cells.specs.Cells.{kind, no_leg, branch_of, rows_within}

@@ -1,4 +1,4 @@
-use Rattle.std.proofs.Common.{◌≡◌, suc, ◌+◌, ◌-◌, ◌<◌, true, false, cond, length, get_or, None, sym, ap, ◌∙◌, subst, arith}
+use Rattle.std.proofs.Common.{suc, ◌+◌, ◌-◌, ◌<◌, true, false, cond, length, None, sym, ap, ◌∙◌, subst, arith}
 use Rattle.std.proofs.lemmas.List.{get_or_read}
 use Rattle.search_cells.specs.Cells.{kind, as_joined, as_reached, row_at, table_at, HasRoom}
 use Rattle.search_theory.specs.Entries.{cheaper, cheapest}

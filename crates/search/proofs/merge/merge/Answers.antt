@@ -1,4 +1,4 @@
-use Rattle.std.proofs.Common.{◌≡◌, ℕ, suc, ◌+◌, ◌-◌, ◌*◌, ◌<◌, ◌≤◌, ◌⊎◌, length, get_or, None, sym, refl, ap, ◌∙◌, subst, inl, inr, suc-mul, eq-or-lt_of_le, arith, ltb-true}
+use Rattle.std.proofs.Common.{◌≡◌, suc, ◌+◌, ◌-◌, ◌*◌, ◌<◌, get_or, None, sym, refl, ap, ◌∙◌, subst, inl, inr, suc-mul, eq-or-lt_of_le, arith, ltb-true}
 use Rattle.length_rule.specs.Costs.{kth_price}
 use Rattle.search_cells.specs.Cells.{kind, as_joined, as_reached, row_at, table_of, HasRoom}
 use Rattle.search_theory.specs.Joining.{step}

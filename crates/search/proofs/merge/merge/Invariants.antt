@@ -1,4 +1,4 @@
-use Rattle.std.proofs.Common.{◌≡◌, ℕ, ◌+◌, ◌*◌, ◌<◌, ◌≤◌, length, get_or, None}
+use Rattle.std.proofs.Common.{◌≡◌, ℕ, ◌+◌, ◌*◌, ◌<◌, ◌≤◌, get_or, None}
 use Rattle.length_rule.specs.Costs.{kth_price}
 use Rattle.search_cells.specs.Cells.{kind, row_at, table_of}
 use Rattle.search_theory.specs.Joining.{step}

@@ -1,5 +1,5 @@
 -- What is written of the row is not read again: the rest of it is joined from what stood there.
-use Rattle.std.proofs.Common.{◌≡◌, ℕ, ◌+◌, ◌-◌, ◌<◌, ◌≤◌, length, get_or, None, sym, refl, ◌∙◌, subst, arith, rules}
+use Rattle.std.proofs.Common.{◌+◌, ◌-◌, ◌<◌, length, None, sym, refl, ◌∙◌, subst, arith, rules}
 use Rattle.search_cells.specs.Cells.{kind, as_joined, as_reached, row_at, table_at, HasRoom, joined_row}
 use Rattle.search_cells.proofs.Inplace.{joined_row_same, kept_before, kept_after, back_more}
 use Rattle.search.proofs.merge.merge_row.Goals as goal

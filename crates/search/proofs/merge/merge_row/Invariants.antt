@@ -1,4 +1,4 @@
-use Rattle.std.proofs.Common.{◌≡◌, ℕ, ◌+◌, ◌<◌, ◌≤◌, length, get_or, None}
+use Rattle.std.proofs.Common.{◌≡◌, ℕ, ◌+◌, ◌<◌, ◌≤◌, get_or, None}
 use Rattle.search_cells.specs.Cells.{kind, as_reached, row_at, table_at, joined_row}
 use Rattle.search.proofs.merge.merge_row.Given as goal
 

@@ -1,4 +1,4 @@
-use Rattle.std.proofs.Common.{◌≡◌, ℕ, ◌+◌, ◌*◌, ◌<◌, [], length, Some, None, sym, refl, ap, ◌∙◌, arith, rules}
+use Rattle.std.proofs.Common.{◌+◌, ◌<◌, [], length, Some, None, refl, ap, ◌∙◌, arith, rules}
 use Rattle.search_cells.specs.Cells.{kind}
 use Rattle.search_cells.proofs.Filling.{cleared}
 use Rattle.search_cells.proofs.Inplace.{kept_before, forth_more}

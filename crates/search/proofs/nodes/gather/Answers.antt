@@ -1,5 +1,5 @@
 -- One child more of the family is one row more in the table.
-use Rattle.std.proofs.Common.{◌≡◌, ℕ, ◌+◌, ◌*◌, ◌<◌, ◌≤◌, map, length, get_or, None, refl, ap, ◌∙◌, arith}
+use Rattle.std.proofs.Common.{◌≡◌, ◌+◌, ◌*◌, ◌<◌, map, get_or, None, refl, ap, ◌∙◌, arith}
 use Rattle.length_rule.specs.Costs.{kth_price}
 use Rattle.search_cells.specs.Cells.{kind, rows_of}
 use Rattle.search_cells.specs.Lists.{last_first}

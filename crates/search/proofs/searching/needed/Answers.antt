@@ -1,5 +1,5 @@
 -- A route has at most 256 records and a limit is at most the largest, so the product fits.
-use Rattle.std.proofs.Common.{◌≡◌, ◌+◌, ◌*◌, ◌≤◌, length, sym, ap, ◌∙◌, subst, mul-le-mul, arith}
+use Rattle.std.proofs.Common.{◌+◌, ◌*◌, ◌≤◌, length, ap, ◌∙◌, mul-le-mul, arith}
 use Rattle.net.specs.Checked.{records_of}
 use Rattle.net.specs.declared.records.Route.{Route}
 use Rattle.net.proofs.Properly.{proper_if}

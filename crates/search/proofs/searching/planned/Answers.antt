@@ -1,5 +1,5 @@
 -- The rows are the search's, so the driver's best entry and the marks handed down are the plan that is chosen.
-use Rattle.std.proofs.Common.{◌≡◌, ℕ, ◌+◌, List, length, replicate, Some, None, sym, refl, ap, ◌∙◌, arith}
+use Rattle.std.proofs.Common.{replicate, Some, refl, ap, ◌∙◌, arith}
 use Rattle.std.proofs.lemmas.List.{get_or-replicate}
 use Rattle.search_cells.specs.Cells.{kind}
 use Rattle.search_cells.specs.Families.{no_family, members}

@@ -1,6 +1,5 @@
 -- A route's records can be searched, the cells suffice, and what is chosen is best.
-use Rattle.std.proofs.Common.{◌≡◌, ℕ, ◌+◌, ◌*◌, ◌<◌, ◌≤◌, List, length, Err, Option, sym, refl, ap, ◌∙◌, subst, add-mul, arith}
-use Rattle.net.specs.declared.records.record.Record.{Record}
+use Rattle.std.proofs.Common.{◌≡◌, ◌+◌, ◌*◌, ◌≤◌, length, Err, sym, ap, ◌∙◌, subst, add-mul, arith}
 use Rattle.net.specs.declared.records.Route.{Route}
 use Rattle.net.specs.Checked.{records_of}
 use Rattle.net.specs.Proper.{Proper}

@@ -1,5 +1,5 @@
 -- One row more: the table of the index's children gives the row of the search, and the rows after it stay.
-use Rattle.std.proofs.Common.{◌≡◌, ℕ, ◌+◌, ◌-◌, ◌*◌, ◌<◌, ◌≤◌, ltb, ◌⊎◌, map, length, get_or, None, sym, refl, ap, ◌∙◌, subst, inl, inr, eq-or-lt_of_le, arith}
+use Rattle.std.proofs.Common.{◌≡◌, ◌+◌, ◌-◌, ◌*◌, ◌<◌, ltb, map, length, get_or, sym, ap, ◌∙◌, subst, inl, inr, eq-or-lt_of_le, arith}
 use Rattle.best_plan.specs.Chosen.{problem}
 use Rattle.length_rule.specs.Costs.{kth_price}
 use Rattle.search_cells.specs.Cells.{kind, as_chosen, row_at, rows_of, table_of, five_rows}

@@ -1,4 +1,4 @@
-use Rattle.std.proofs.Common.{refl, arith, drop-set-lt, rules, ltb-true}
+use Rattle.std.proofs.Common.{refl, drop-set-lt, rules, ltb-true}
 use Rattle.counted.proofs.Tables.{within, table_after}
 use Rattle.counted.proofs.counted.Counted.put.Goals as goal
 

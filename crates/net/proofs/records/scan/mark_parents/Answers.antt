@@ -1,4 +1,4 @@
-use Rattle.std.proofs.Common.{◌≡◌, ℕ, ◌+◌, Bool, List, length, sym, subst, arith}
+use Rattle.std.proofs.Common.{◌≡◌, ℕ, ◌+◌, length, sym, subst, arith}
 use Rattle.net.specs.Marks.{ParentsMarked}
 use Rattle.net.proofs.Faults.{no_parent_marked, parent_marked, parent_past}
 use Rattle.net.proofs.records.scan.mark_parents.Goals as goal

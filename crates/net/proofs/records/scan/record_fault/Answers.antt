@@ -1,7 +1,7 @@
-use Rattle.std.proofs.Common.{◌≡◌, ◌<◌, true, false, sym, ◌∙◌, arith}
-use Rattle.grid.specs.Tiles.{tile_count, has_tile}
+use Rattle.std.proofs.Common.{◌<◌, true, false, sym, ◌∙◌, arith}
+use Rattle.grid.specs.Tiles.{tile_count}
 use Rattle.std.proofs.lemmas.Bool.{lt-ltb}
-use Rattle.net.specs.Routes.{tile_of, stands_earlier}
+use Rattle.net.specs.Routes.{tile_of}
 use Rattle.net.proofs.Faults.{tile_below, fourth_test}
 use Rattle.net.proofs.records.scan.record_fault.Goals as goal
 

@@ -1,4 +1,4 @@
-use Rattle.std.proofs.Common.{◌<◌, sym, ◌∙◌, arith, rules}
+use Rattle.std.proofs.Common.{◌<◌, arith, rules}
 use Rattle.open_stock.proofs.Wides.{count_wide, capacity_wide, used_wide}
 use Rattle.open_stock.proofs.wide.OpenStock.at.Goals as goal
 
