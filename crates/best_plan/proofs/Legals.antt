@@ -1,6 +1,6 @@
 -- The marks that the search chooses are a cheapest legal plan, or no plan is legal.
 use Rattle.std.proofs.Common.{◌≡◌, ℕ, zero, suc, ◌+◌, ◌<◌, ◌≤◌, Bool, true, false, cond, eqb, ltb, List, ◌++◌, length, Some, None, Option, sym, refl, ap, ◌∙◌, subst, arith}
-use Rattle.std.specs.List.{AllByRecursion as All}
+use Rattle.std.specs.List.{AllByRecursion}
 use Rattle.std.proofs.lemmas.Bool.Decides.{nat_tests}
 use Rattle.net.specs.declared.records.record.Record.{Record}
 use Rattle.net.specs.Routes.{parent_of}
@@ -25,19 +25,19 @@ use Rattle.best_plan.proofs.Marks.{laid_out, mark_small, mark_none, marks_length
 use Rattle.best_plan.proofs.Same.{over_same}
 
 -- of gates that stand if a test holds
-all_if : (P : Gate → Type 0) (b : Bool) (a : Gate) (gs : List Gate) → (b ≡ true → P a) → All P gs → All P (put_if b a ++ gs)
+all_if : (P : Gate → Type 0) (b : Bool) (a : Gate) (gs : List Gate) → (b ≡ true → P a) → AllByRecursion P gs → AllByRecursion P (put_if b a ++ gs)
 all_if P true a gs h r = (h refl, r)
 all_if P false a gs h r = r
 
-all_last : (P : Gate → Type 0) (b : Bool) (a : Gate) → (b ≡ true → P a) → All P (put_if b a)
+all_last : (P : Gate → Type 0) (b : Bool) (a : Gate) → (b ≡ true → P a) → AllByRecursion P (put_if b a)
 all_last P true a h = (h refl, tt)
 all_last P false a h = tt
 
-if_all : (P : Gate → Type 0) (b : Bool) (a : Gate) (gs : List Gate) → All P (put_if b a ++ gs) → (b ≡ true → P a) × All P gs
+if_all : (P : Gate → Type 0) (b : Bool) (a : Gate) (gs : List Gate) → AllByRecursion P (put_if b a ++ gs) → (b ≡ true → P a) × AllByRecursion P gs
 if_all P true a gs r = (λ _. r.0, r.1)
 if_all P false a gs r = (λ e. absurd (no_test e), r)
 
-last_all : (P : Gate → Type 0) (b : Bool) (a : Gate) → All P (put_if b a) → b ≡ true → P a
+last_all : (P : Gate → Type 0) (b : Bool) (a : Gate) → AllByRecursion P (put_if b a) → b ≡ true → P a
 last_all P true a r e = r.0
 last_all P false a r e = absurd (no_test e)
 
@@ -75,7 +75,7 @@ module _ {C : Type 0} {o : Kind C} (l : Lawful o) (limit : ℕ) (rs : List Recor
       buffers : ℕ → List Gate
       buffers = λ i. put_if (head_at ms i) (gate (1 + entering rs ms i) (parent_of rs i)) ++ put_if (trunk_at ms i) (gate (hanging rs ms i) i)
 
-      parts : (i : ℕ) → i < length rs → (head_at ms i ≡ true → 1 + entering rs ms i ≤ limit) × All Within (put_if (trunk_at ms i) (gate (hanging rs ms i) i))
+      parts : (i : ℕ) → i < length rs → (head_at ms i ≡ true → 1 + entering rs ms i ≤ limit) × AllByRecursion Within (put_if (trunk_at ms i) (gate (hanging rs ms i) i))
       parts i h =
           if_all Within (head_at ms i) (gate (1 + entering rs ms i) (parent_of rs i)) (put_if (trunk_at ms i) (gate (hanging rs ms i) i))
           (if_all Within (eqb i 0) (gate (hanging rs ms i) i) (buffers i) (x.driven i h)).1

@@ -1,6 +1,6 @@
 -- The refusals of a plan leave exactly the legal plans.
 use Rattle.std.proofs.Common.{◌≡◌, ℕ, ◌<◌, ◌≤◌, Bool, cond, eqb, leb, List, [], ◌∷◌, length, None, Decides, Option, sym, refl, ap, ◌∙◌, subst, ⊎_elim, arith}
-use Rattle.std.specs.List.{AllByRecursion as All}
+use Rattle.std.specs.List.{AllByRecursion}
 use Rattle.std.proofs.lemmas.Bool.{leb-true, le-leb, eqb-true, eq-eqb, ne_eqb, cases_eq}
 use Rattle.std.proofs.lemmas.Bool.Decides.{nat_tests}
 use Rattle.net.specs.declared.records.record.Record.{Record}
@@ -17,13 +17,13 @@ use Rattle.length_rule.specs.Refusals.{mark_fault, over_limit, gate_fault, site_
 both_none : {F : Type 0} (a b : Option F) → a ≡ None → b ≡ None → or_else a b ≡ None
 both_none a b e f = ap (λ (o : Option _). or_else o b) e ∙ f
 
-within : (limit i : ℕ) (gs : List Gate) → over_limit limit i gs ≡ None → All (λ g. g.drives ≤ limit) gs
+within : (limit i : ℕ) (gs : List Gate) → over_limit limit i gs ≡ None → AllByRecursion (λ g. g.drives ≤ limit) gs
 within limit i [] e = tt
 within limit i (g ∷ gs) e =
     let both = or_else_none (unless (leb g.drives limit) (Drives i g.drives)) (over_limit limit i gs) e in
     (leb-true g.drives limit (unless_none (leb g.drives limit) (Drives i g.drives) both.0), within limit i gs both.1)
 
-none_over : (limit i : ℕ) (gs : List Gate) → All (λ g. g.drives ≤ limit) gs → over_limit limit i gs ≡ None
+none_over : (limit i : ℕ) (gs : List Gate) → AllByRecursion (λ g. g.drives ≤ limit) gs → over_limit limit i gs ≡ None
 none_over limit i [] h = refl
 none_over limit i (g ∷ gs) h =
     both_none (unless (leb g.drives limit) (Drives i g.drives)) (over_limit limit i gs)

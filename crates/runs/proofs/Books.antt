@@ -1,6 +1,6 @@
 -- Which books are true and which false.
 use Rattle.std.proofs.Common.{◌≡◌, ℕ, ◌≤◌, leb, List, [], ◌∷◌, Some, None, Ok, Option, Result, sym, refl, ap, ◌∙◌, subst, inl, inr, arith}
-use Rattle.std.specs.List.{AllByRecursion as All}
+use Rattle.std.specs.List.{AllByRecursion}
 use Rattle.std.proofs.lemmas.List.{get_or-set_same}
 use Rattle.std.proofs.lemmas.Bool.{le-leb}
 use Rattle.grid.specs.declared.shape.Grid.{Grid}
@@ -62,7 +62,7 @@ module _ (sites wires : Meaning) (nets : List NetPlace) (records : List RecordPl
   opens_opened rows columns w (inr a) = answered a.0 w (opening_fault a.0 sites wires nets records) refl a.2
 
 -- what drives at most the limit is not over it
-none_over : (limit i : ℕ) (gs : List Gate) → All (λ g. g.drives ≤ limit) gs → over_limit limit i gs ≡ None
+none_over : (limit i : ℕ) (gs : List Gate) → AllByRecursion (λ g. g.drives ≤ limit) gs → over_limit limit i gs ≡ None
 none_over limit i [] h = refl
 none_over limit i (g ∷ gs) h =
     ap (λ (o : Option PlanFault). or_else o (over_limit limit i gs)) (unless_clear (leb g.drives limit) (Drives i g.drives) (le-leb g.drives limit h.0))

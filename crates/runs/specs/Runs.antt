@@ -1,6 +1,6 @@
 -- Whole runs of calls from an opening, refused calls and questions counted, and when a book is true.
 use Rattle.std.specs.Prelude.{◌≡◌, ℕ, ◌<◌, ◌≤◌, true, false, List, [], length, Some, None, Option, Result}
-use Rattle.std.specs.List.{AllByRecursion as All}
+use Rattle.std.specs.List.{AllByRecursion}
 use Rattle.grid.specs.Tiles.{tile_count}
 use Rattle.grid.specs.Boundaries.{boundary_count}
 use Rattle.stock.specs.Meaning.{capacity, used}
@@ -42,7 +42,7 @@ Untouched w = (h : History) × Run w h
 
 -- each gate of a plan drives at most the limit
 abbrev pub Driven : ℕ → List Record → List ℕ → Type 0
-Driven limit rs ms = (i : ℕ) → i < length rs → All (λ g. g.drives ≤ limit) (gates_at rs ms i)
+Driven limit rs ms = (i : ℕ) → i < length rs → AllByRecursion (λ g. g.drives ≤ limit) (gates_at rs ms i)
 
 -- The book is true of what the calls were handed and accepted. The tables have no part in it.
 pub record BookTrue (w : World) (h : History) : Type 0 where

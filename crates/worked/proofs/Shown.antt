@@ -1,6 +1,6 @@
 -- Each worked example, by what the definitions and the check compute of it.
 use Rattle.std.proofs.Common.{◌≡◌, ℕ, zero, suc, ◌<◌, ◌≤◌, Bool, true, false, not, ◌&&◌, List, [], ◌∷◌, length, drop, sym, refl, ap, subst, arith}
-use Rattle.std.specs.List.{AllByRecursion as All}
+use Rattle.std.specs.List.{AllByRecursion}
 use Rattle.std.proofs.lemmas.Bool.{and_parts, both_ways, not-true}
 use Rattle.net.specs.declared.records.record.Record.{Record}
 use Rattle.net.specs.Lowest.{nothing_wrong}
@@ -55,7 +55,7 @@ no_plan (a ∷ (b ∷ (c ∷ (d ∷ (x ∷ xs))))) e m z = absurd (omega arith)
 none_of_join : (ms : List ℕ) → Legal 1 join one_spare ms → ⊥
 none_of_join ms l = refused 1 join one_spare ms (omega arith) (no_plan ms l.plan.each l.plan.known l.plan.driver) l
 
-plans : All Holds (drop 5 examples)
+plans : AllByRecursion Holds (drop 5 examples)
 unfolding one_spare
 plans = (
   (proper_if strip branches refl, legal_if 3 branches (0 ∷ 0 ∷ 0 ∷ 0 ∷ []) (0 ∷ 0 ∷ 0 ∷ 0 ∷ []) (omega arith) refl),
@@ -71,5 +71,5 @@ plans = (
   ),
 )
 
-pub shown : All Holds examples
+pub shown : AllByRecursion Holds examples
 shown = (refl, (refl, (refl, (refl, ((proper_if long_strip path refl, path_cheapest), plans)))))

@@ -4,14 +4,14 @@
 #![tactic(auto)]
 
 ghost use Rattle.std.specs.Prelude.{◌≡◌, length};
-ghost use Rattle.std.specs.List.{AllByRecursion as All};
+ghost use Rattle.std.specs.List.{AllByRecursion};
 ghost use Rattle.worked.specs.Examples.{Holds, examples};
 
 const EXAMPLES: usize = 10;
 
 // How many worked examples there are. Each of them holds.
 pub fn worked_examples() -> usize
-    ensures hold { All Holds examples }
+    ensures hold { AllByRecursion Holds examples }
     ensures count { result ≡ length examples }
 {
     EXAMPLES
