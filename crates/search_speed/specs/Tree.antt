@@ -1,5 +1,5 @@
--- A tree that grows by throws of dice. Each throw picks an index and a side: if a tile stands at that index, and the
--- tile on that side is one of the grid and free, it joins the tree and hangs from that index.
+-- A tree that grows by throws of dice. Each throw picks one of the tiles that stand and a side: if the tile on that side
+-- is one of the grid and free, it joins the tree and hangs from the one that was picked.
 use Rattle.std.specs.Prelude.{ℕ, zero, suc, ◌+◌, ◌*◌, ◌/◌, ◌%◌, Bool, true, cond, not, ◌&&◌, List, length, take, replicate, Some, None, Option, ◌==◌, nat_eq, nat_lt, slice_set}
 use Rattle.grid.specs.declared.shape.Grid.{Grid}
 use Rattle.grid.specs.Boundaries.{neighbours}
@@ -11,15 +11,15 @@ use Rattle.net.specs.Routes.{tile_of}
 abbrev pub next_dice : ℕ → ℕ
 next_dice dice = (dice * 1664525 + 1013904223) % 4294967296
 
-abbrev pub picked_index : ℕ → ℕ
-picked_index dice = dice / 65536 % 256
+abbrev pub picked_index : (records dice : ℕ) → ℕ
+picked_index records dice = dice / 65536 % records
 
 abbrev pub picked_side : ℕ → ℕ
 picked_side dice = dice / 16777216 % 4
 
--- the step from a tile to the one on its right, below it, above it or on its left, as tiles are numbered in 64 columns
+-- the step from a tile to the one on its left, on its right, above it or below it, as tiles are numbered in 64 columns
 abbrev pub step_to : ℕ → ℕ
-step_to side = cond (side == 0) 1 (cond (side == 1) 64 (cond (side == 2) 4032 4095))
+step_to side = cond (side == 0) 4095 (cond (side == 1) 1 (cond (side == 2) 4032 64))
 
 -- numbers go round at the 4,096 tiles of the largest grid: a tile at an edge has there a number that is no neighbour's
 abbrev pub tile_beside : ℕ → ℕ → ℕ
@@ -39,8 +39,8 @@ joins g rs p t = cond (free_neighbour g rs (tile_of rs p) t) (Some (record { til
 -- the record that a throw adds to these
 abbrev pub sprout : Grid → List Record → ℕ → Option Record
 sprout g rs dice =
-    cond (nat_lt (picked_index dice) (length rs))
-    (joins g rs (picked_index dice) (tile_beside (tile_of rs (picked_index dice)) (picked_side dice)))
+    cond (nat_lt 0 (length rs))
+    (joins g rs (picked_index (length rs) dice) (tile_beside (tile_of rs (picked_index (length rs) dice)) (picked_side dice)))
     None
 
 -- so many records stand in a table; where there is room, a throw may add one behind them

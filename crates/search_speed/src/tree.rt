@@ -15,16 +15,16 @@ fn next_dice(dice: u32) -> u32
     ((dice as u64 * 1664525 + 1013904223) % 4294967296) as u32
 }
 
-// The tile right of this one, below it, above it or left of it, on a grid of 64 rows and columns. Numbers go round at
+// The tile left of this one, right of it, above it or below it, on a grid of 64 rows and columns. Numbers go round at
 // its ends, so that past an edge the tile told is no neighbour.
 fn tile_beside(tile: u16, side: u32) -> u16
     ensures { result ≡ tile_beside tile side }
 {
     let step = match side {
-        0 => 1,
-        1 => 64,
+        0 => 4095,
+        1 => 1,
         2 => 4032,
-        _ => 4095,
+        _ => 64,
     };
     ((tile as u32 + step) % 4096) as u16
 }
@@ -41,23 +41,24 @@ fn stands(records: &[Record], tile: u16) -> bool
     false
 }
 
-// The record that a throw adds to these: a tile beside one of them, both picked by the dice, unless none of them is
-// picked, the grid has no such tile, or it stands already.
+// The record that a throw adds to these: a tile beside one of them, both picked by the dice, unless there are none, the
+// grid has no such tile, or it stands already.
 fn sprout(grid: Grid, records: &[Record], dice: u32) -> Option<Record>
     ensures { result ≡ sprout grid records.now dice }
 {
-    let parent = (dice / 65536 % 256) as u16;
-    if parent as usize >= records.len() {
+    if records.is_empty() {
         return None;
     }
-    let from = records[parent as usize].tile;
+    let pick = (dice / 65536) as u16;
+    let parent = pick as usize % records.len();
+    let from = records[parent].tile;
     let tile = tile_beside(from, dice / 16777216 % 4);
     if !grid.neighbours(from as usize, tile as usize) || stands(records, tile) {
         return None;
     }
     Some(Record {
         tile,
-        parent,
+        parent: parent as u16,
         sink: true,
     })
 }
