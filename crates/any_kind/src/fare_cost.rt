@@ -18,10 +18,6 @@ impl Cost for Fare {
 
     ghost held = { λ cell. fare cell.0 cell.1 };
 
-    ghost lawful = { fare_laws };
-
-    ghost kept = { fare_kept };
-
     fn nothing() -> Fare {
         Fare {
             coins: 0,
@@ -50,6 +46,10 @@ impl Cost for Fare {
             stamps: cell.1,
         }
     }
+
+    ghost lawful = { fare_laws };
+
+    ghost kept = { fare_kept };
 }
 
 impl Pricing for Fare {

@@ -6,6 +6,5 @@
 
 pub mod amount;
 pub mod as_cost;
-pub mod as_strict;
 
 pub use amount::Congestion;

@@ -9,8 +9,8 @@ module _ {X Y S V : Type 0} where
   pair x y = record { first = x; second = y }
 
   abbrev pub pair_plus : (X → X → X) → (Y → Y → Y) → Pair X Y S V → Pair X Y S V → Pair X Y S V
-  pair_plus first-plus second-plus p q = pair (first-plus p.first q.first) (second-plus p.second q.second)
+  pair_plus first_plus second_plus p q = pair (first_plus p.first q.first) (second_plus p.second q.second)
 
   abbrev pub pair_at_most : (X → X → Bool) → X → (Y → Y → Bool) → Pair X Y S V → Pair X Y S V → Bool
-  pair_at_most first-at-most ceiling second-at-most p q =
-      ranked first-at-most ceiling second-at-most p.first p.second q.first q.second
+  pair_at_most first_at_most ceiling second_at_most p q =
+      ranked first_at_most ceiling second_at_most p.first p.second q.first q.second

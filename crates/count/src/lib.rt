@@ -5,6 +5,5 @@
 
 pub mod amount;
 pub mod as_cost;
-pub mod as_strict;
 
 pub use amount::Count;

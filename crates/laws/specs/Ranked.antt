@@ -8,5 +8,5 @@ ranks forth back full rest = cond back (cond forth (cond full true rest) false) 
 
 -- x with a is at most y with b
 abbrev pub ranked : {X Y : Type 0} → (X → X → Bool) → X → (Y → Y → Bool) → X → Y → X → Y → Bool
-ranked first-at-most ceiling second-at-most x a y b =
-    ranks (first-at-most x y) (first-at-most y x) (first-at-most ceiling x) (second-at-most a b)
+ranked first_at_most ceiling second_at_most x a y b =
+    ranks (first_at_most x y) (first_at_most y x) (first_at_most ceiling x) (second_at_most a b)

@@ -42,10 +42,6 @@ impl Cost for WorstTile {
 
     ghost held = { worst_tile };
 
-    ghost lawful = { larger_laws worst_tiles };
-
-    ghost kept = { amount_reads_back worst_tiles };
-
     fn nothing() -> WorstTile {
         capped(0)
     }
@@ -65,6 +61,10 @@ impl Cost for WorstTile {
     fn from_cell(cell: u16) -> WorstTile {
         capped(cell)
     }
+
+    ghost lawful = { larger_laws worst_tiles };
+
+    ghost kept = { amount_reads_back worst_tiles };
 }
 
 impl Pricing for WorstTile {

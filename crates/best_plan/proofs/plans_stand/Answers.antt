@@ -6,5 +6,5 @@ use Rattle.best_plan.proofs.plans_stand.Goals as goal
 pub returns : goal.returns
 returns g c = record {
   alone = λ limit rs spare spare' prices prices' tree alike. chosen_alone _ limit rs spare spare' prices prices' tree alike;
-  best = chosen_best g.C.Cost.lawful;
+  best = chosen_best g.met.C.Cost.lawful;
 }

@@ -3,4 +3,4 @@ use Rattle.search_theory.proofs.Answer.{found_right}
 use Rattle.search_theory.proofs.search_stands.Goals as goal
 
 pub returns : goal.returns
-returns g c = found_right g.C.Cost.lawful
+returns g c = found_right g.met.C.Cost.lawful

@@ -19,7 +19,7 @@ returns g c =
     let within : c.args.base < length xs = omega arith in
     record {
       table = λ h j a b. cleared (kind m.nothing m.plus m.at_most) m.held xs c.args.base (c.args.limit + 1) _
-          (ap (λ x. Some (record { cost = x; what = [] })) (ap m.held (c.to_cell-cost.ensures ∙ ap m.stored c.nothing.ensures) ∙ g.P.Cost.kept m.nothing))
+          (ap (λ x. Some (record { cost = x; what = [] })) (ap m.held (c.to_cell-cost.ensures ∙ ap m.stored c.nothing.ensures) ∙ g.met.P.Cost.kept m.nothing))
           within (λ k l. c.loop-k.invariant.1 k (omega arith)) h j a (omega arith);
       before = kept_before None xs c.args.cells.now c.args.base _ c.args.base (omega arith) c.loop-k.invariant.0;
     }
