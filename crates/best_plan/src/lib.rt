@@ -6,12 +6,13 @@
 #![tactic(auto)]
 
 ghost use Rattle.best_plan.specs.Cheapest.{PlansStand, ChoiceAlone};
+ghost use Rattle.search_theory.specs.Costs.{kind_of};
 
 use cost::Cost;
 
 // Whatever the limit, the route, its spare sites and prices: the marks that the search chooses are a cheapest legal plan,
 // or it chooses none and no plan is legal. What it chooses rests on nothing else.
 pub fn plans_stand<C: Cost>()
-    ensures alone { ChoiceAlone (record { nothing = C.Cost.nothing; plus = C.Cost.plus; at_most = C.Cost.at_most }) }
-    ensures best { PlansStand (record { nothing = C.Cost.nothing; plus = C.Cost.plus; at_most = C.Cost.at_most }) }
+    ensures alone { ChoiceAlone (kind_of C.Cost) }
+    ensures best { PlansStand (kind_of C.Cost) }
 {}

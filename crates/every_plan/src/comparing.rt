@@ -2,7 +2,7 @@
 ghost use Rattle.std.specs.Prelude.{◌≡◌, length};
 ghost use Rattle.net.specs.Checked.{records_of};
 ghost use Rattle.best_plan.specs.Chosen.{chosen};
-ghost use Rattle.search_cells.specs.Cells.{kind};
+ghost use Rattle.search_theory.specs.Costs.{kind_of};
 ghost use Rattle.search.specs.Answers.{marks_after};
 ghost use Rattle.every_plan.specs.Comparing.{tie, judged, searched, compared};
 
@@ -70,8 +70,8 @@ fn searched<P: Cost>(
     cells: &mut [Option<Entry<P::Cell>>],
     marks: &mut [u8],
 ) -> Verdict
-    ensures verdict { result ≡ searched (kind P.Cost.nothing P.Cost.plus P.Cost.at_most) (records_of route.now) spare.now prices.now (length cells.old) marks.old limit.value }
-    ensures marks { marks.new ≡ marks_after limit.value (length (records_of route.now)) (length cells.old) marks.old (chosen (kind P.Cost.nothing P.Cost.plus P.Cost.at_most) limit.value (records_of route.now) spare.now prices.now) }
+    ensures verdict { result ≡ searched (kind_of P.Cost) (records_of route.now) spare.now prices.now (length cells.old) marks.old limit.value }
+    ensures marks { marks.new ≡ marks_after limit.value (length (records_of route.now)) (length cells.old) marks.old (chosen (kind_of P.Cost) limit.value (records_of route.now) spare.now prices.now) }
 {
     let answer = search::<P>(limit, route, spare, prices, cells, marks);
     let cheapest = by_trying::<P>(limit, route, spare, prices);
@@ -88,7 +88,7 @@ pub(crate) fn compared<P: Cost>(
     prices: &[Option<P>],
     cells: &mut [Option<Entry<P::Cell>>],
 ) -> Verdict
-    ensures { result ≡ compared (kind P.Cost.nothing P.Cost.plus P.Cost.at_most) (records_of route.now) spare.now prices.now (length cells.old) figure }
+    ensures { result ≡ compared (kind_of P.Cost) (records_of route.now) spare.now prices.now (length cells.old) figure }
 {
     let mut marks = [0; RECORDS];
     let count = route.records().len().min(RECORDS);

@@ -1,7 +1,7 @@
 // Many nets in one kind of cost, and how their answers compared.
 ghost use Rattle.std.specs.Prelude.{◌≡◌, length};
 ghost use Rattle.net.specs.Checked.{records_of};
-ghost use Rattle.search_cells.specs.Cells.{kind};
+ghost use Rattle.search_theory.specs.Costs.{kind_of};
 ghost use Rattle.every_plan.specs.Tallies.{counted, on_route, of_shape, in_crowd, tried};
 ghost use Rattle.every_plan.specs.Crowds.{prices_along, prices_after};
 
@@ -45,7 +45,7 @@ fn on_route<P: Cost>(
     cells: &mut [Option<Entry<P::Cell>>],
     before: Tally,
 ) -> Tally
-    ensures { result ≡ on_route (kind P.Cost.nothing P.Cost.plus P.Cost.at_most) spare.now prices.now (length cells.old) before (records_of route.now) }
+    ensures { result ≡ on_route (kind_of P.Cost) spare.now prices.now (length cells.old) before (records_of route.now) }
 {
     let mut tally = before;
     for figure in 1..=LIMITS {
@@ -63,7 +63,7 @@ fn of_shape<P: Cost>(
     cells: &mut [Option<Entry<P::Cell>>],
     before: Tally,
 ) -> Tally
-    ensures { result ≡ of_shape (kind P.Cost.nothing P.Cost.plus P.Cost.at_most) spare.now prices.now (length cells.old) grid before shape.now }
+    ensures { result ≡ of_shape (kind_of P.Cost) spare.now prices.now (length cells.old) grid before shape.now }
 {
     match route_of(grid, shape) {
         Err(_) => counted(before, NO_ANSWER),
@@ -80,7 +80,7 @@ fn in_crowd<P: Pricing>(
     cells: &mut [Option<Entry<P::Cell>>],
     before: Tally,
 ) -> Tally
-    ensures tally { result ≡ in_crowd (kind P.Cost.nothing P.Cost.plus P.Cost.at_most) P.Cost.held P.Pricing.priced (length prices.old) (length cells.old) grid shapes.now before crowd.now }
+    ensures tally { result ≡ in_crowd (kind_of P.Cost) P.Cost.held P.Pricing.priced (length prices.old) (length cells.old) grid shapes.now before crowd.now }
     ensures prices { prices.new ≡ prices_along P.Cost.held P.Pricing.priced (length prices.old) crowd.now }
 {
     write_prices::<P>(crowd, prices);
@@ -100,7 +100,7 @@ pub(crate) fn tried<P: Pricing>(
     prices: &mut [Option<P>],
     cells: &mut [Option<Entry<P::Cell>>],
 ) -> Tally
-    ensures tally { result ≡ tried (kind P.Cost.nothing P.Cost.plus P.Cost.at_most) P.Cost.held P.Pricing.priced (length prices.old) (length cells.old) grid shapes.now crowds.now }
+    ensures tally { result ≡ tried (kind_of P.Cost) P.Cost.held P.Pricing.priced (length prices.old) (length cells.old) grid shapes.now crowds.now }
     ensures prices { prices.new ≡ prices_after P.Cost.held P.Pricing.priced prices.old crowds.now }
 {
     let mut tally = Tally {

@@ -1,7 +1,7 @@
 // Trying every plan of a net.
 ghost use Rattle.std.specs.Prelude.{◌≡◌};
 ghost use Rattle.net.specs.Checked.{records_of};
-ghost use Rattle.search_cells.specs.Cells.{kind};
+ghost use Rattle.search_theory.specs.Costs.{kind_of};
 ghost use Rattle.every_plan.specs.Codes.{marks_of, plans};
 ghost use Rattle.every_plan.specs.Trying.{lower, accepted_cost, by_trying};
 
@@ -55,7 +55,7 @@ pub(crate) fn accepted_cost<P: Cost>(
     prices: &[Option<P>],
     marks: &[u8],
 ) -> Option<P>
-    ensures { result ≡ accepted_cost (kind P.Cost.nothing P.Cost.plus P.Cost.at_most) limit.value (records_of route.now) spare.now prices.now marks.now }
+    ensures { result ≡ accepted_cost (kind_of P.Cost) limit.value (records_of route.now) spare.now prices.now marks.now }
 {
     match check_plan(limit, route, spare, marks) {
         Err(_) => None,
@@ -70,7 +70,7 @@ pub(crate) fn by_trying<P: Cost>(
     spare: &[u16],
     prices: &[Option<P>],
 ) -> Option<P>
-    ensures { result ≡ by_trying (kind P.Cost.nothing P.Cost.plus P.Cost.at_most) limit.value (records_of route.now) spare.now prices.now }
+    ensures { result ≡ by_trying (kind_of P.Cost) limit.value (records_of route.now) spare.now prices.now }
 {
     let count = route.records().len();
     let mut best: Option<P> = None;

@@ -23,10 +23,10 @@ pub fn runs_stand()
 
 // In a sealed floorplan, whatever plan is chosen, if it is as planning at this pricing says.
 pub fn whole_from_call<P: Pricing>()
-    ensures { (choose : Choice P) → WholeFromCall (prices_of P.Cost.nothing P.Cost.plus P.Cost.at_most P.Cost.held P.Pricing.priced) choose sealed }
+    ensures { (choose : Choice P) → WholeFromCall (prices_of P.Cost P.Pricing.priced) choose sealed }
 {}
 
 // Planning that answers and leaves what the search finds is planning as the law has it, at every pricing.
 pub fn found_plans<P: Pricing>()
-    ensures { FoundPlans (prices_of P.Cost.nothing P.Cost.plus P.Cost.at_most P.Cost.held P.Pricing.priced) }
+    ensures { FoundPlans (prices_of P.Cost P.Pricing.priced) }
 {}

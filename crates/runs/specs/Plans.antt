@@ -9,7 +9,8 @@ use Rattle.net.specs.Routes.{tile_of}
 use Rattle.length_rule.specs.Children.{indices, kept}
 use Rattle.length_rule.specs.Costs.{plan_cost}
 use Rattle.length_rule.specs.Legal.{Legal}
-use Rattle.search_theory.specs.Costs.{Kind}
+use Rattle.cost.specs.declared.costs.Cost.{Ghosts}
+use Rattle.search_theory.specs.Costs.{Kind, kind_of}
 use Rattle.best_plan.specs.Cheapest.{Cheapest, NoLegalPlan}
 use Rattle.runs.specs.Worlds.{World, limit_of, route_of, is_planned}
 
@@ -18,11 +19,12 @@ pub record Prices (C : Type 0) : Type 0 where
   pub kind : Kind C
   pub priced : ℕ → ℕ → ℕ → C
 
--- the members of a pricing: V is the type of its costs in a work cell, in whose plain numbers it tells a price
-abbrev pub prices_of : {C V : Type 0} → C → (C → C → C) → (C → C → Bool) → (V → C) → (ℕ → ℕ → ℕ → V) → Prices C
-prices_of nothing plus at_most held priced = record {
-  kind = record { nothing = nothing; plus = plus; at_most = at_most };
-  priced = λ capacity used share. held (priced capacity used share);
+-- the members of a cost type and its prices: V is the type of its costs in a work cell, in whose plain numbers a price is
+-- told
+abbrev pub prices_of : {C V : Type 0} → Ghosts C V → (ℕ → ℕ → ℕ → V) → Prices C
+prices_of members priced = record {
+  kind = kind_of members;
+  priced = λ capacity used share. members.held (priced capacity used share);
 }
 
 -- a record of these stands in the tile t

@@ -40,8 +40,8 @@ pub fn answers_decided()
 
 // At a cost type planning does what planning by whatever pricing does, and costs that differ in the choice tie.
 pub fn costs_decided<P: Pricing>()
-    ensures mixes { (choose : Choice P) (w u : World) (k cells : ℕ) (r : Answer P PlanningFault) → PlansBy (prices_of P.Cost.nothing P.Cost.plus P.Cost.at_most P.Cost.held P.Pricing.priced) choose w k cells r u → Plans w k cells (fault_of r) u }
-    ensures costs { CostsDecided (prices_of P.Cost.nothing P.Cost.plus P.Cost.at_most P.Cost.held P.Pricing.priced) }
+    ensures mixes { (choose : Choice P) (w u : World) (k cells : ℕ) (r : Answer P PlanningFault) → PlansBy (prices_of P.Cost P.Pricing.priced) choose w k cells r u → Plans w k cells (fault_of r) u }
+    ensures costs { CostsDecided (prices_of P.Cost P.Pricing.priced) }
 {}
 
 // A small floorplan is opened, entered, sealed, planned with 42 work cells, withdrawn and filed.

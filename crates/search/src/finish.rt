@@ -3,7 +3,8 @@ ghost use Rattle.std.specs.Prelude.{◌≡◌, ℕ, suc, ◌+◌, ◌-◌, ◌*�
 ghost use Rattle.length_rule.specs.Costs.{kth_price};
 ghost use Rattle.search_theory.specs.Entries.{cheaper as less, cheapest};
 ghost use Rattle.search_theory.specs.Joining.{charged as paid, chosen as decided, plain, trunked, finish as finished};
-ghost use Rattle.search_cells.specs.Cells.{kind, as_joined, as_chosen, row_at, table_at, table_of, five_rows};
+ghost use Rattle.search_cells.specs.Cells.{as_joined, as_chosen, row_at, table_at, table_of, five_rows};
+ghost use Rattle.search_theory.specs.Costs.{kind_of};
 
 use crate::least::cheaper;
 use crate::merge::{ROWS, charged};
@@ -37,7 +38,7 @@ fn column<P: Cost>(
     requires within { base + 5 * (limit + 1) ≤ length cells.now }
     requires most { rows ≤ 5 }
     requires reach { e ≤ limit }
-    ensures { as_joined P.Cost.held result ≡ cheapest (kind P.Cost.nothing P.Cost.plus P.Cost.at_most) rows (λ h. table_of P.Cost.held cells.now base (limit + 1) h e) }
+    ensures { as_joined P.Cost.held result ≡ cheapest (kind_of P.Cost) rows (λ h. table_of P.Cost.held cells.now base (limit + 1) h e) }
 {
     let mut best: Option<Entry<P::Cell>> = None;
     for h in 0..rows {
@@ -50,7 +51,7 @@ fn column<P: Cost>(
 // The cheapest of the table's row at `at`.
 fn level<P: Cost>(cells: &[Option<Entry<P::Cell>>], at: usize, limit: u8) -> Option<Entry<P::Cell>>
     requires { at + limit < length cells.now }
-    ensures { as_joined P.Cost.held result ≡ cheapest (kind P.Cost.nothing P.Cost.plus P.Cost.at_most) (suc limit) (table_at P.Cost.held cells.now at) }
+    ensures { as_joined P.Cost.held result ≡ cheapest (kind_of P.Cost) (suc limit) (table_at P.Cost.held cells.now at) }
 {
     let width = limit as usize + 1;
     let mut best: Option<Entry<P::Cell>> = None;
@@ -71,7 +72,7 @@ fn driven<P: Cost>(
 ) -> Option<Entry<P::Cell>>
     requires within { base + 5 * (limit + 1) ≤ length cells.now }
     requires most { rows ≤ 5 }
-    ensures { as_joined P.Cost.held result ≡ cheapest (kind P.Cost.nothing P.Cost.plus P.Cost.at_most) rows (λ h. paid (kind P.Cost.nothing P.Cost.plus P.Cost.at_most) (kth_price P.Cost.nothing P.Cost.plus price h) (cheapest (kind P.Cost.nothing P.Cost.plus P.Cost.at_most) (suc limit) (λ j. table_of P.Cost.held cells.now base (limit + 1) h j))) }
+    ensures { as_joined P.Cost.held result ≡ cheapest (kind_of P.Cost) rows (λ h. paid (kind_of P.Cost) (kth_price P.Cost.nothing P.Cost.plus price h) (cheapest (kind_of P.Cost) (suc limit) (λ j. table_of P.Cost.held cells.now base (limit + 1) h j))) }
 {
     let mut best: Option<Entry<P::Cell>> = None;
     for h in 0..rows {
@@ -103,7 +104,7 @@ fn trunk<P: Cost>(
     price: Option<P>,
 ) -> Option<Entry<P::Cell>>
     requires within { base + 5 * (limit + 1) ≤ length cells.now }
-    ensures { as_chosen P.Cost.held result ≡ (if free then trunked (kind P.Cost.nothing P.Cost.plus P.Cost.at_most) limit spare (kth_price P.Cost.nothing P.Cost.plus price) (five_rows (table_of P.Cost.held cells.now base (limit + 1))) else None) }
+    ensures { as_chosen P.Cost.held result ≡ (if free then trunked (kind_of P.Cost) limit spare (kth_price P.Cost.nothing P.Cost.plus price) (five_rows (table_of P.Cost.held cells.now base (limit + 1))) else None) }
 {
     if free {
         chosen::<P>(
@@ -126,7 +127,7 @@ fn best<P: Cost>(
 ) -> Option<Entry<P::Cell>>
     requires within { base + 5 * (limit + 1) ≤ length cells.now }
     requires reach { e ≤ limit }
-    ensures { as_chosen P.Cost.held result ≡ less (kind P.Cost.nothing P.Cost.plus P.Cost.at_most) (plain (kind P.Cost.nothing P.Cost.plus P.Cost.at_most) spare (five_rows (table_of P.Cost.held cells.now base (limit + 1))) e) (if nat_eq e 0 then as_chosen P.Cost.held other else None) }
+    ensures { as_chosen P.Cost.held result ≡ less (kind_of P.Cost) (plain (kind_of P.Cost) spare (five_rows (table_of P.Cost.held cells.now base (limit + 1))) e) (if nat_eq e 0 then as_chosen P.Cost.held other else None) }
 {
     let own = chosen::<P>(
         false,
@@ -152,7 +153,7 @@ pub(crate) fn finish<P: Cost>(
     requires fits { limit < 255 }
     requires within { base + 5 * (limit + 1) ≤ length cells.old }
     requires apart { at + limit < base }
-    ensures row { (e : ℕ) → e ≤ limit → row_at P.Cost.held cells.new at e ≡ finished (kind P.Cost.nothing P.Cost.plus P.Cost.at_most) limit free spare (kth_price P.Cost.nothing P.Cost.plus price) (five_rows (table_of P.Cost.held cells.old base (limit + 1))) e }
+    ensures row { (e : ℕ) → e ≤ limit → row_at P.Cost.held cells.new at e ≡ finished (kind_of P.Cost) limit free spare (kth_price P.Cost.nothing P.Cost.plus price) (five_rows (table_of P.Cost.held cells.old base (limit + 1))) e }
     ensures before { (k : ℕ) → k < at → slice_index_or cells.new k None ≡ slice_index_or cells.old k None }
     ensures after { (k : ℕ) → at + limit < k → slice_index_or cells.new k None ≡ slice_index_or cells.old k None }
 {

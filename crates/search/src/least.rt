@@ -2,7 +2,8 @@
 ghost use Rattle.std.specs.Prelude.{◌≡◌, ℕ, ◌+◌, ◌<◌, ◌≤◌, length};
 ghost use Rattle.search_theory.specs.Entries.{cheaper as less};
 ghost use Rattle.search_theory.specs.Joining.{tagged as tag, best_entry as least_of};
-ghost use Rattle.search_cells.specs.Cells.{kind, as_joined, as_chosen, as_reached, row_at};
+ghost use Rattle.search_cells.specs.Cells.{as_joined, as_chosen, as_reached, row_at};
+ghost use Rattle.search_theory.specs.Costs.{kind_of};
 
 use cost::Cost;
 use search_cells::{Entry, Reach};
@@ -12,8 +13,8 @@ pub(crate) fn cheaper<P: Cost>(
     a: Option<Entry<P::Cell>>,
     b: Option<Entry<P::Cell>>,
 ) -> Option<Entry<P::Cell>>
-    ensures tables { as_joined P.Cost.held result ≡ less (kind P.Cost.nothing P.Cost.plus P.Cost.at_most) (as_joined P.Cost.held a) (as_joined P.Cost.held b) }
-    ensures rows { as_chosen P.Cost.held result ≡ less (kind P.Cost.nothing P.Cost.plus P.Cost.at_most) (as_chosen P.Cost.held a) (as_chosen P.Cost.held b) }
+    ensures tables { as_joined P.Cost.held result ≡ less (kind_of P.Cost) (as_joined P.Cost.held a) (as_joined P.Cost.held b) }
+    ensures rows { as_chosen P.Cost.held result ≡ less (kind_of P.Cost) (as_chosen P.Cost.held a) (as_chosen P.Cost.held b) }
 {
     match a {
         None => b,
@@ -45,7 +46,7 @@ pub(crate) fn tagged<P: Cost>(cell: Option<Entry<P::Cell>>, e: u8) -> Option<Rea
 
 // The cheaper of two, the first where they tie.
 fn nearer<P: Cost>(a: Option<Reach<P::Cell>>, b: Option<Reach<P::Cell>>) -> Option<Reach<P::Cell>>
-    ensures { as_reached P.Cost.held result ≡ less (kind P.Cost.nothing P.Cost.plus P.Cost.at_most) (as_reached P.Cost.held a) (as_reached P.Cost.held b) }
+    ensures { as_reached P.Cost.held result ≡ less (kind_of P.Cost) (as_reached P.Cost.held a) (as_reached P.Cost.held b) }
 {
     match a {
         None => b,
@@ -69,7 +70,7 @@ pub(crate) fn best_entry<P: Cost>(
     count: u8,
 ) -> Option<Reach<P::Cell>>
     requires { at + count ≤ length cells.now }
-    ensures { as_reached P.Cost.held result ≡ least_of (kind P.Cost.nothing P.Cost.plus P.Cost.at_most) count (row_at P.Cost.held cells.now at) }
+    ensures { as_reached P.Cost.held result ≡ least_of (kind_of P.Cost) count (row_at P.Cost.held cells.now at) }
 {
     let mut best: Option<Reach<P::Cell>> = None;
     for e in 0..count {

@@ -2,10 +2,11 @@
 ghost use Rattle.std.specs.Prelude.{◌≡◌, ℕ, suc, ◌+◌, ◌-◌, ◌*◌, ◌<◌, ◌≤◌, true, false, [], length, slice_index};
 ghost use Rattle.search_theory.specs.Entries.{what_or};
 ghost use Rattle.search_theory.specs.Search.{choice_for, no_choice};
-ghost use Rattle.search_cells.specs.Cells.{kind, branch_of, as_chosen, rows_within, Searchable};
+ghost use Rattle.search_cells.specs.Cells.{branch_of, as_chosen, rows_within, Searchable};
 ghost use Rattle.search_cells.specs.Families.{TellsRanks};
 ghost use Rattle.best_plan.specs.Chosen.{problem, mark_of};
 ghost use Rattle.search.specs.Rows.{BranchForEachChild, handed_mark};
+ghost use Rattle.search_theory.specs.Costs.{kind_of};
 
 use crate::families::MOST;
 use crate::places::place;
@@ -49,7 +50,7 @@ fn leg<P: Cost>(
     requires ranked { TellsRanks records.now ranks.now }
     requires within { length records.now * (limit + 1) ≤ length cells.now }
     requires long { BranchForEachChild records.now (rows_within P.Cost.held cells.now limit) }
-    ensures { branch_of result ≡ choice_for (problem (kind P.Cost.nothing P.Cost.plus P.Cost.at_most) limit records.now [] []) (rows_within P.Cost.held cells.now limit) k e }
+    ensures { branch_of result ≡ choice_for (problem (kind_of P.Cost) limit records.now [] []) (rows_within P.Cost.held cells.now limit) k e }
 {
     let parent = records[k].parent as usize;
     let cell = read::<P>(cells, limit, records.len(), parent, e);
@@ -107,7 +108,7 @@ fn hand_down<P: Cost>(
     requires ranked { TellsRanks records.now ranks.now }
     requires within { length records.now * (limit + 1) ≤ length cells.now }
     requires long { BranchForEachChild records.now (rows_within P.Cost.held cells.now limit) }
-    ensures { (k : ℕ) → k < length records.now → slice_index marks.new k ≡ handed_mark (problem (kind P.Cost.nothing P.Cost.plus P.Cost.at_most) limit records.now [] []) (rows_within P.Cost.held cells.now limit) e k }
+    ensures { (k : ℕ) → k < length records.now → slice_index marks.new k ≡ handed_mark (problem (kind_of P.Cost) limit records.now [] []) (rows_within P.Cost.held cells.now limit) e k }
 {
     let n = records.len();
     marks[0] = mark_of(false, trunk_of::<P>(cells, limit, n, 0, e));
@@ -135,7 +136,7 @@ pub(crate) fn decide<P: Cost>(
     requires ranked { TellsRanks records.now ranks.now }
     requires within { length records.now * (limit + 1) ≤ length cells.now }
     requires long { BranchForEachChild records.now (rows_within P.Cost.held cells.now limit) }
-    ensures { (k : ℕ) → k < length records.now → slice_index marks.new k ≡ handed_mark (problem (kind P.Cost.nothing P.Cost.plus P.Cost.at_most) limit records.now [] []) (rows_within P.Cost.held cells.now limit) e k }
+    ensures { (k : ℕ) → k < length records.now → slice_index marks.new k ≡ handed_mark (problem (kind_of P.Cost) limit records.now [] []) (rows_within P.Cost.held cells.now limit) e k }
 {
     let mut lengths = [e; MOST];
     hand_down::<P>(cells, records, ranks, limit, e, &mut lengths, marks);

@@ -3,7 +3,8 @@ ghost use Rattle.std.specs.Prelude.{◌≡◌, ℕ, suc, ◌+◌, ◌-◌, ◌*�
 ghost use Rattle.length_rule.specs.Costs.{kth_price};
 ghost use Rattle.search_theory.specs.Entries.{cheaper as less, cheapest};
 ghost use Rattle.search_theory.specs.Joining.{tagged as tag, join as with_leg, charged as paid, step};
-ghost use Rattle.search_cells.specs.Cells.{kind, as_joined, as_chosen, as_reached, row_at, table_at, listed, HasRoom, joined_row, table_of};
+ghost use Rattle.search_cells.specs.Cells.{as_joined, as_chosen, as_reached, row_at, table_at, listed, HasRoom, joined_row, table_of};
+ghost use Rattle.search_theory.specs.Costs.{kind_of};
 
 use crate::least::{best_entry, cheaper, tagged};
 use cost::Cost;
@@ -29,7 +30,7 @@ fn join<P: Cost>(
     r: Option<Reach<P::Cell>>,
 ) -> Option<Entry<P::Cell>>
     requires { HasRoom t }
-    ensures { as_joined P.Cost.held result ≡ with_leg (kind P.Cost.nothing P.Cost.plus P.Cost.at_most) head (as_joined P.Cost.held t) (as_reached P.Cost.held r) }
+    ensures { as_joined P.Cost.held result ≡ with_leg (kind_of P.Cost) head (as_joined P.Cost.held t) (as_reached P.Cost.held r) }
 {
     match t {
         None => None,
@@ -55,7 +56,7 @@ fn join<P: Cost>(
 
 // `t` with one site more to pay for.
 pub(crate) fn charged<P: Cost>(price: P, t: Option<Entry<P::Cell>>) -> Option<Entry<P::Cell>>
-    ensures { as_joined P.Cost.held result ≡ paid (kind P.Cost.nothing P.Cost.plus P.Cost.at_most) price (as_joined P.Cost.held t) }
+    ensures { as_joined P.Cost.held result ≡ paid (kind_of P.Cost) price (as_joined P.Cost.held t) }
 {
     match t {
         None => None,
@@ -82,7 +83,7 @@ fn hung<P: Cost>(
     requires own { at + j ≤ length cells.now }
     requires other { child + j ≤ length cells.now }
     requires room { (k : ℕ) → k < j → HasRoom (slice_index_or cells.now (at + k) None) }
-    ensures { as_joined P.Cost.held result ≡ cheapest (kind P.Cost.nothing P.Cost.plus P.Cost.at_most) j (λ e. with_leg (kind P.Cost.nothing P.Cost.plus P.Cost.at_most) false (table_at P.Cost.held cells.now at (j - suc e)) (tag e (row_at P.Cost.held cells.now child e))) }
+    ensures { as_joined P.Cost.held result ≡ cheapest (kind_of P.Cost) j (λ e. with_leg (kind_of P.Cost) false (table_at P.Cost.held cells.now at (j - suc e)) (tag e (row_at P.Cost.held cells.now child e))) }
 {
     let mut best: Option<Entry<P::Cell>> = None;
     for e in 0..j {
@@ -110,7 +111,7 @@ fn joined<P: Cost>(
     requires lower { some ≡ true → low + j < length cells.now }
     requires room { (k : ℕ) → k < j → HasRoom (slice_index_or cells.now (at + k) None) }
     requires roomy { some ≡ true → HasRoom (slice_index_or cells.now (low + j) None) }
-    ensures { as_joined P.Cost.held result ≡ joined_row (kind P.Cost.nothing P.Cost.plus P.Cost.at_most) price (table_at P.Cost.held cells.now at) (row_at P.Cost.held cells.now child) some (table_at P.Cost.held cells.now low) (as_reached P.Cost.held first) j }
+    ensures { as_joined P.Cost.held result ≡ joined_row (kind_of P.Cost) price (table_at P.Cost.held cells.now at) (row_at P.Cost.held cells.now child) some (table_at P.Cost.held cells.now low) (as_reached P.Cost.held first) j }
 {
     let own = hung::<P>(cells, at, child, j);
     if some {
@@ -138,7 +139,7 @@ fn merge_row<P: Cost>(
     requires lower { some ≡ true → low + limit < at }
     requires room { (k : ℕ) → k ≤ limit → HasRoom (slice_index_or cells.old (at + k) None) }
     requires roomy { (k : ℕ) → k ≤ limit → some ≡ true → HasRoom (slice_index_or cells.old (low + k) None) }
-    ensures row { (j : ℕ) → j ≤ limit → table_at P.Cost.held cells.new at j ≡ joined_row (kind P.Cost.nothing P.Cost.plus P.Cost.at_most) price (table_at P.Cost.held cells.old at) (row_at P.Cost.held cells.old child) some (table_at P.Cost.held cells.old low) (as_reached P.Cost.held first) j }
+    ensures row { (j : ℕ) → j ≤ limit → table_at P.Cost.held cells.new at j ≡ joined_row (kind_of P.Cost) price (table_at P.Cost.held cells.old at) (row_at P.Cost.held cells.old child) some (table_at P.Cost.held cells.old low) (as_reached P.Cost.held first) j }
     ensures before { (k : ℕ) → k < at → slice_index_or cells.new k None ≡ slice_index_or cells.old k None }
     ensures after { (k : ℕ) → at + limit < k → slice_index_or cells.new k None ≡ slice_index_or cells.old k None }
 {
@@ -168,7 +169,7 @@ pub(crate) fn merge<P: Cost>(
     requires own { base + 5 * (limit + 1) ≤ length cells.old }
     requires apart { child + limit < base }
     requires room { (h j : ℕ) → h < 5 → j ≤ limit → HasRoom (slice_index_or cells.old (base + h * (limit + 1) + j) None) }
-    ensures table { (h j : ℕ) → h < 5 → j ≤ limit → table_of P.Cost.held cells.new base (limit + 1) h j ≡ step (kind P.Cost.nothing P.Cost.plus P.Cost.at_most) limit (kth_price P.Cost.nothing P.Cost.plus price) (table_of P.Cost.held cells.old base (limit + 1)) (row_at P.Cost.held cells.old child) h j }
+    ensures table { (h j : ℕ) → h < 5 → j ≤ limit → table_of P.Cost.held cells.new base (limit + 1) h j ≡ step (kind_of P.Cost) limit (kth_price P.Cost.nothing P.Cost.plus price) (table_of P.Cost.held cells.old base (limit + 1)) (row_at P.Cost.held cells.old child) h j }
     ensures before { (k : ℕ) → k < base → slice_index_or cells.new k None ≡ slice_index_or cells.old k None }
 {
     let first = best_entry::<P>(cells, child, limit);

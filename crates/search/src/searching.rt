@@ -1,10 +1,11 @@
 // The search of a net for a cheapest legal plan.
 ghost use Rattle.std.specs.Prelude.{◌≡◌, ℕ, ◌+◌, ◌*◌, ◌<◌, ◌≤◌, false, length, is_ok};
 ghost use Rattle.net.specs.Checked.{records_of};
-ghost use Rattle.search_cells.specs.Cells.{kind, Searchable};
+ghost use Rattle.search_cells.specs.Cells.{Searchable};
 ghost use Rattle.best_plan.specs.Chosen.{chosen};
 ghost use Rattle.refusal.specs.Told.{told_by};
 ghost use Rattle.search.specs.Answers.{cells_needed, cost_of, marks_of_chosen, search_answer, search_refusal, marks_after, told, TellsBest, RestsOnNet};
+ghost use Rattle.search_theory.specs.Costs.{kind_of};
 
 use crate::families::{MOST, NO_CHILDREN, link};
 use crate::fault::SearchFault;
@@ -34,8 +35,8 @@ fn planned<P: Cost>(
     requires many { length records.now ≤ 256 }
     requires own { length records.now * (limit + 1) + 5 * (limit + 1) ≤ length cells.old }
     requires room { length marks.old ≡ length records.now }
-    ensures answer { result ≡ cost_of (chosen (kind P.Cost.nothing P.Cost.plus P.Cost.at_most) limit records.now spare.now prices.now) }
-    ensures marks { marks.new ≡ marks_of_chosen marks.old (chosen (kind P.Cost.nothing P.Cost.plus P.Cost.at_most) limit records.now spare.now prices.now) }
+    ensures answer { result ≡ cost_of (chosen (kind_of P.Cost) limit records.now spare.now prices.now) }
+    ensures marks { marks.new ≡ marks_of_chosen marks.old (chosen (kind_of P.Cost) limit records.now spare.now prices.now) }
 {
     let mut families = [NO_CHILDREN; MOST];
     let mut ranks = [0; MOST];
@@ -70,12 +71,12 @@ pub fn search<P: Cost>(
     cells: &mut [Option<Entry<P::Cell>>],
     marks: &mut [u8],
 ) -> Result<Option<P>, SearchFault>
-    ensures answer { result ≡ search_answer limit.value (length (records_of route.now)) (length cells.old) (length marks.old) (chosen (kind P.Cost.nothing P.Cost.plus P.Cost.at_most) limit.value (records_of route.now) spare.now prices.now) }
+    ensures answer { result ≡ search_answer limit.value (length (records_of route.now)) (length cells.old) (length marks.old) (chosen (kind_of P.Cost) limit.value (records_of route.now) spare.now prices.now) }
     ensures told { told_by told result ≡ search_refusal limit.value (length (records_of route.now)) (length cells.old) (length marks.old) }
-    ensures marks { marks.new ≡ marks_after limit.value (length (records_of route.now)) (length cells.old) marks.old (chosen (kind P.Cost.nothing P.Cost.plus P.Cost.at_most) limit.value (records_of route.now) spare.now prices.now) }
-    ensures alone { RestsOnNet (kind P.Cost.nothing P.Cost.plus P.Cost.at_most) limit.value (records_of route.now) spare.now prices.now }
+    ensures marks { marks.new ≡ marks_after limit.value (length (records_of route.now)) (length cells.old) marks.old (chosen (kind_of P.Cost) limit.value (records_of route.now) spare.now prices.now) }
+    ensures alone { RestsOnNet (kind_of P.Cost) limit.value (records_of route.now) spare.now prices.now }
     ensures kept { is_ok result ≡ false → cells.new ≡ cells.old }
-    ensures best { TellsBest (kind P.Cost.nothing P.Cost.plus P.Cost.at_most) limit.value (records_of route.now) spare.now prices.now result marks.new }
+    ensures best { TellsBest (kind_of P.Cost) limit.value (records_of route.now) spare.now prices.now result marks.new }
 {
     let needed = needed(limit, route);
     if cells.len() < needed {

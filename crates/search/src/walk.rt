@@ -1,9 +1,10 @@
 // The rows of a net, from its last index to its first.
 ghost use Rattle.std.specs.Prelude.{◌≡◌, ℕ, suc, ◌+◌, ◌-◌, ◌*◌, ◌<◌, ◌≤◌, length};
 ghost use Rattle.search_theory.specs.Search.{row};
-ghost use Rattle.search_cells.specs.Cells.{kind, rows_of, Searchable};
+ghost use Rattle.search_cells.specs.Cells.{rows_of, Searchable};
 ghost use Rattle.search_cells.specs.Families.{TellsFamilies};
 ghost use Rattle.best_plan.specs.Chosen.{problem};
+ghost use Rattle.search_theory.specs.Costs.{kind_of};
 
 use crate::finish::finish;
 use crate::nodes::{clear, gather};
@@ -27,7 +28,7 @@ pub(crate) fn walk<P: Cost>(
     requires tree { Searchable records.now }
     requires wide { length records.now ≤ length families.now }
     requires told { TellsFamilies records.now families.now }
-    ensures rows { (i e : ℕ) → i < length records.now → e ≤ limit → rows_of P.Cost.held cells.new (limit + 1) i e ≡ row (kind P.Cost.nothing P.Cost.plus P.Cost.at_most) (problem (kind P.Cost.nothing P.Cost.plus P.Cost.at_most) limit records.now spare.now prices.now) i e }
+    ensures rows { (i e : ℕ) → i < length records.now → e ≤ limit → rows_of P.Cost.held cells.new (limit + 1) i e ≡ row (kind_of P.Cost) (problem (kind_of P.Cost) limit records.now spare.now prices.now) i e }
 {
     let n = records.len();
     let base = n * (limit as usize + 1);

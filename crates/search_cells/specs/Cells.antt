@@ -10,9 +10,6 @@ use Rattle.search_cells.specs.declared.Leg.{Leg}
 use Rattle.search_cells.specs.declared.Entry.{Entry}
 use Rattle.search_cells.specs.declared.Reach.{Reach}
 
-abbrev pub kind : {C : Type 0} → C → (C → C → C) → (C → C → Bool) → Kind C
-kind nothing plus at_most = record { nothing = nothing; plus = plus; at_most = at_most }
-
 abbrev pub no_leg : Leg
 no_leg = record { head = false; entering = 0 }
 

@@ -8,7 +8,6 @@ use Rattle.congestion.specs.Congestions.{congestion, congestions}
 use Rattle.net.specs.declared.records.record.Record.{Record}
 use Rattle.search_theory.specs.Costs.{Kind}
 use Rattle.search_theory.specs.Entries.{Priced}
-use Rattle.search_cells.specs.Cells.{kind}
 use Rattle.best_plan.specs.Chosen.{chosen}
 use Rattle.search.specs.declared.fault.SearchFault.{SearchFault}
 use Rattle.search_speed.specs.Tables.{table}
@@ -16,9 +15,11 @@ use Rattle.search_speed.specs.Crowd.{Costs, crowd_spare, crowd_price}
 
 -- the kind of cost: fewer buffers first, then less congestion
 abbrev pub count_then_congestion : Kind Costs
-count_then_congestion =
-    kind (pair (count 0) (congestion 0)) (pair_plus (capped_sum counts) (capped_sum congestions))
-    (pair_at_most (amount_at_most counts) (count count_ceiling) (amount_at_most congestions))
+count_then_congestion = record {
+  nothing = pair (count 0) (congestion 0);
+  plus = pair_plus (capped_sum counts) (capped_sum congestions);
+  at_most = pair_at_most (amount_at_most counts) (count count_ceiling) (amount_at_most congestions);
+}
 
 -- the plan that the search chooses for these records in the crowd
 abbrev pub plan_in_crowd : ℕ → List Record → Option (Priced Costs (List ℕ))

@@ -4,10 +4,11 @@
 #![tactic(auto)]
 
 ghost use Rattle.search_theory.specs.Search.{SearchStands};
+ghost use Rattle.search_theory.specs.Costs.{kind_of};
 
 use cost::Cost;
 
 // The search answers a legal layout that no legal layout undercuts, or there is none.
 pub fn search_stands<C: Cost>()
-    ensures { SearchStands (record { nothing = C.Cost.nothing; plus = C.Cost.plus; at_most = C.Cost.at_most }) }
+    ensures { SearchStands (kind_of C.Cost) }
 {}

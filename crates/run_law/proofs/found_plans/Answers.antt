@@ -4,4 +4,4 @@ use Rattle.run_law.proofs.found_plans.Goals as goal
 use Rattle.run_law.proofs.Found.{found_plans}
 
 pub returns : goal.returns
-returns g c = found_plans (prices_of g.P.Cost.nothing g.P.Cost.plus g.P.Cost.at_most g.P.Cost.held g.P.Pricing.priced) g.met.P.Cost.lawful
+returns g c = found_plans (prices_of g.P.Cost g.P.Pricing.priced) g.met.P.Cost.lawful

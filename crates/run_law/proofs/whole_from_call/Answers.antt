@@ -4,4 +4,4 @@ use Rattle.run_law.proofs.whole_from_call.Goals as goal
 use Rattle.run_law.proofs.Whole.{whole_from_call}
 
 pub returns : goal.returns
-returns g c = λ choose. whole_from_call (prices_of g.P.Cost.nothing g.P.Cost.plus g.P.Cost.at_most g.P.Cost.held g.P.Pricing.priced) choose
+returns g c = λ choose. whole_from_call (prices_of g.P.Cost g.P.Pricing.priced) choose

@@ -5,5 +5,5 @@ use Rattle.runs.proofs.Decided.{mixes, costs_decided}
 
 pub returns : goal.returns
 returns g c =
-    let o = prices_of g.P.Cost.nothing g.P.Cost.plus g.P.Cost.at_most g.P.Cost.held g.P.Pricing.priced in
+    let o = prices_of g.P.Cost g.P.Pricing.priced in
     record { mixes = λ choose w u k cells r. mixes o choose w k cells r u; costs = costs_decided o }

@@ -1,6 +1,6 @@
 use Rattle.std.proofs.Common.{ℕ, length, arith}
 use Rattle.net.specs.Checked.{records_of}
-use Rattle.search_cells.specs.Cells.{kind}
+use Rattle.search_theory.specs.Costs.{kind_of}
 use Rattle.every_plan.specs.Tallies.{limits, at_limit}
 use Rattle.every_plan.proofs.Folds.{one_counted, all_counted}
 use Rattle.every_plan.proofs.Nets.{one_limit}
@@ -9,7 +9,7 @@ use Rattle.every_plan.proofs.tallying.on_route.Goals as goal
 pub loop-figure-preserved : goal.loop-figure-preserved
 loop-figure-preserved g c =
     let m = g.P.Cost in
-    let o = kind m.nothing m.plus m.at_most in
+    let o = kind_of m in
     let rs = records_of c.args.route.now in
     let spare = c.args.spare.now in
     let prices = c.args.prices.now in
@@ -21,5 +21,5 @@ loop-figure-preserved g c =
 pub returns : goal.returns
 returns g c =
     let m = g.P.Cost in
-    let step = λ (cells : ℕ). at_limit (kind m.nothing m.plus m.at_most) c.args.spare.now c.args.prices.now cells (records_of c.args.route.now) in
+    let step = λ (cells : ℕ). at_limit (kind_of m) c.args.spare.now c.args.prices.now cells (records_of c.args.route.now) in
     all_counted step (length c.args.cells.now) c.args.before limits c.loop-figure.figure c.loop-figure.tally (omega arith) c.loop-figure.invariant

@@ -1,5 +1,5 @@
 use Rattle.std.proofs.Common.{ℕ, List, [], length, Option}
-use Rattle.search_cells.specs.Cells.{kind}
+use Rattle.search_theory.specs.Costs.{kind_of}
 use Rattle.every_plan.specs.declared.crowds.Crowd.{Crowd}
 use Rattle.every_plan.specs.declared.tallying.Tally.{Tally}
 use Rattle.every_plan.specs.Crowds.{prices_along}
@@ -17,7 +17,7 @@ pub loop-crowd-preserved : goal.loop-crowd-preserved
 unfolding no_tally no_crowd
 loop-crowd-preserved g c =
     let m = g.P.Cost in
-    let step = λ (n : ℕ × ℕ). in_crowd (kind m.nothing m.plus m.at_most) m.held g.P.Pricing.priced n.0 n.1 c.args.grid c.args.shapes.now in
+    let step = λ (n : ℕ × ℕ). in_crowd (kind_of m) m.held g.P.Pricing.priced n.0 n.1 c.args.grid c.args.shapes.now in
     let write = λ (places : ℕ) (_ : List (Option g.row.P.Denot)). prices_along m.held g.P.Pricing.priced places in
     let xs = c.args.crowds.now in
     let i = c.loop-crowd.crowd-index in (
@@ -31,7 +31,7 @@ pub returns : goal.returns
 unfolding no_tally
 returns g c =
     let m = g.P.Cost in
-    let step = λ (n : ℕ × ℕ). in_crowd (kind m.nothing m.plus m.at_most) m.held g.P.Pricing.priced n.0 n.1 c.args.grid c.args.shapes.now in
+    let step = λ (n : ℕ × ℕ). in_crowd (kind_of m) m.held g.P.Pricing.priced n.0 n.1 c.args.grid c.args.shapes.now in
     let write = λ (places : ℕ) (_ : List (Option g.row.P.Denot)). prices_along m.held g.P.Pricing.priced places in
     let xs = c.args.crowds.now in
     let i = c.loop-crowd.crowd-index in

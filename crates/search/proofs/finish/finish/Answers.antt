@@ -1,16 +1,17 @@
 use Rattle.std.proofs.Common.{◌≡◌, ℕ, ◌+◌, ◌*◌, ◌<◌, cond, eqb, length, None, refl, ap, ◌∙◌, arith, rules}
 use Rattle.length_rule.specs.Costs.{kth_price}
-use Rattle.search_cells.specs.Cells.{kind, as_joined, as_chosen, table_of, five_rows}
+use Rattle.search_cells.specs.Cells.{as_joined, as_chosen, table_of, five_rows}
 use Rattle.search_theory.specs.Entries.{cheaper}
 use Rattle.search_theory.specs.Joining.{plain}
 use Rattle.search_cells.proofs.Finishing.{finish_at, plain_same}
 use Rattle.search_cells.proofs.Inplace.{kept_before, kept_after, forth_more}
 use Rattle.search.proofs.finish.finish.Goals as goal
+use Rattle.search_theory.specs.Costs.{kind_of}
 
 pub loop-e-preserved : goal.loop-e-preserved
 loop-e-preserved g c =
     let m = g.P.Cost in
-    let o = kind m.nothing m.plus m.at_most in
+    let o = kind_of m in
     let w = c.args.limit + 1 in
     let at = c.args.at in
     let e = c.loop-e.e in
@@ -30,7 +31,7 @@ loop-e-preserved g c =
 pub returns : goal.returns
 returns g c =
     let m = g.P.Cost in
-    let o = kind m.nothing m.plus m.at_most in
+    let o = kind_of m in
     let t = five_rows (table_of m.held c.args.cells.now c.args.base (c.args.limit + 1)) in
     record {
       row = λ e l. c.loop-e.invariant.2 e (omega arith)

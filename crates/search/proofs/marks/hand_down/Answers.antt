@@ -3,9 +3,9 @@ use Rattle.std.proofs.Common.{◌≡◌, ℕ, ◌<◌, false, List, [], length, 
 use Rattle.net.specs.declared.records.record.Record.{Record}
 use Rattle.net.specs.Routes.{parent_of}
 use Rattle.best_plan.specs.Chosen.{problem, mark_of}
-use Rattle.search_cells.specs.Cells.{kind, branch_of, rows_within, Searchable}
+use Rattle.search_cells.specs.Cells.{branch_of, rows_within, Searchable}
 use Rattle.search_cells.proofs.Inplace.{first_only, set_more}
-use Rattle.search_theory.specs.Costs.{Kind}
+use Rattle.search_theory.specs.Costs.{kind_of, Kind}
 use Rattle.search_theory.specs.Layouts.{Rooted}
 use Rattle.search_theory.specs.Search.{choice_for, handed_down}
 use Rattle.search_theory.proofs.Handed.{handed_first, handed_next, layout_first, layout_next}
@@ -18,7 +18,7 @@ rooted o limit rs s = record { some = s.some; before = s.earlier }
 pub loop-k-init : goal.loop-k-init
 loop-k-init g c =
     let m = g.P.Cost in
-    let o = kind m.nothing m.plus m.at_most in
+    let o = kind_of m in
     let rs = c.args.records.now in
     let N = problem o c.args.limit rs [] [] in
     let root = rooted o c.args.limit rs c.requires.tree in
@@ -33,7 +33,7 @@ loop-k-init g c =
 pub loop-k-preserved : goal.loop-k-preserved
 loop-k-preserved g c =
     let m = g.P.Cost in
-    let o = kind m.nothing m.plus m.at_most in
+    let o = kind_of m in
     let rs = c.args.records.now in
     let N = problem o c.args.limit rs [] [] in
     let root = rooted o c.args.limit rs c.requires.tree in

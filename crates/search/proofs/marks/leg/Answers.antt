@@ -1,10 +1,11 @@
 use Rattle.std.proofs.Common.{◌<◌, [], length, get_or, ap, ◌∙◌, arith}
 use Rattle.net.specs.Routes.{parent_of}
 use Rattle.best_plan.specs.Chosen.{problem}
-use Rattle.search_cells.specs.Cells.{kind, no_leg, branch_of, rows_within}
+use Rattle.search_cells.specs.Cells.{no_leg, branch_of, rows_within}
 use Rattle.search_cells.proofs.Handing.{choice_none, choice_some}
 use Rattle.search_cells.proofs.Kinship.{rank_below}
 use Rattle.search.proofs.marks.leg.Goals as goal
+use Rattle.search_theory.specs.Costs.{kind_of}
 
 pub offset_bounds-legs-ranks : goal.offset_bounds-legs-ranks
 offset_bounds-legs-ranks g c = omega (arith, rank_below c.args.records.now c.requires.tree c.args.k c.requires.one c.requires.inside, c.requires.ranked c.args.k c.requires.inside)
@@ -15,7 +16,7 @@ bounds-legs-ranks g c = omega (arith, rank_below c.args.records.now c.requires.t
 pub returns-in-None : goal.returns-in-None
 returns-in-None g c =
     let m = g.P.Cost in
-    choice_none (problem (kind m.nothing m.plus m.at_most) c.args.limit c.args.records.now [] []) (rows_within m.held c.args.cells.now c.args.limit) c.args.k c.args.e c.in-None.ensures
+    choice_none (problem (kind_of m) c.args.limit c.args.records.now [] []) (rows_within m.held c.args.cells.now c.args.limit) c.args.k c.args.e c.in-None.ensures
 
 pub returns-in-Some : goal.returns-in-Some
 returns-in-Some g c =
@@ -26,7 +27,7 @@ returns-in-Some g c =
     let before : p < c.args.k = c.requires.tree.earlier c.args.k c.requires.one c.requires.inside in
     let small : p < length ps = omega arith in
     ap (λ i. branch_of (get_or x.legs i no_leg)) (c.requires.ranked c.args.k c.requires.inside)
-    ∙ choice_some (problem (kind m.nothing m.plus m.at_most) c.args.limit ps [] []) (rows_within m.held c.args.cells.now c.args.limit) c.args.k c.args.e
+    ∙ choice_some (problem (kind_of m) c.args.limit ps [] []) (rows_within m.held c.args.cells.now c.args.limit) c.args.k c.args.e
     (m.held x.cost) x.trunk x.legs x.count c.in-Some.ensures (c.requires.long p c.args.e small) c.requires.one c.requires.inside
 
 pub offset_bounds-records-k : goal.offset_bounds-records-k

@@ -1,9 +1,10 @@
 use Rattle.std.proofs.Common.{◌≡◌, suc, ◌+◌, ◌-◌, ◌<◌, false, length, get_or, None, sym, ap, ◌∙◌, subst, arith}
 use Rattle.std.proofs.lemmas.List.{get_or_read}
-use Rattle.search_cells.specs.Cells.{kind, as_joined, as_chosen, as_reached, row_at, table_at, HasRoom}
+use Rattle.search_cells.specs.Cells.{as_joined, as_chosen, as_reached, row_at, table_at, HasRoom}
 use Rattle.search_theory.specs.Joining.{tagged, join}
 use Rattle.search_cells.proofs.Turns.{cheapest_more}
 use Rattle.search.proofs.merge.hung.Goals as goal
+use Rattle.search_theory.specs.Costs.{kind_of}
 
 pub join-requires : goal.join-requires
 join-requires g c =
@@ -15,7 +16,7 @@ join-requires g c =
 pub loop-e-preserved : goal.loop-e-preserved
 loop-e-preserved g c =
     let m = g.P.Cost in
-    let o = kind m.nothing m.plus m.at_most in
+    let o = kind_of m in
     let xs = c.args.cells.now in
     let e = c.loop-e.e in
     let i = c.args.at + (c.args.j - 1 - e) in

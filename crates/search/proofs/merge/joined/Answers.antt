@@ -1,10 +1,11 @@
 use Rattle.std.proofs.Common.{suc, ◌+◌, ◌-◌, ◌<◌, true, false, cond, length, None, sym, ap, ◌∙◌, subst, arith}
 use Rattle.std.proofs.lemmas.List.{get_or_read}
-use Rattle.search_cells.specs.Cells.{kind, as_joined, as_reached, row_at, table_at, HasRoom}
+use Rattle.search_cells.specs.Cells.{as_joined, as_reached, row_at, table_at, HasRoom}
 use Rattle.search_theory.specs.Entries.{cheaper, cheapest}
 use Rattle.search_theory.specs.Joining.{tagged, join, charged}
 use Rattle.search_theory.proofs.Arrays.{cheaper_none}
 use Rattle.search.proofs.merge.joined.Goals as goal
+use Rattle.search_theory.specs.Costs.{kind_of}
 
 pub join-requires : goal.join-requires
 join-requires g c =
@@ -16,7 +17,7 @@ join-requires g c =
 pub returns-then-some : goal.returns-then-some
 returns-then-some g c =
     let m = g.P.Cost in
-    let o = kind m.nothing m.plus m.at_most in
+    let o = kind_of m in
     let xs = c.args.cells.now in
     let j = c.args.j in
     let i = c.args.low + j in
@@ -31,7 +32,7 @@ returns-then-some g c =
 pub returns-else-some : goal.returns-else-some
 returns-else-some g c =
     let m = g.P.Cost in
-    let o = kind m.nothing m.plus m.at_most in
+    let o = kind_of m in
     let xs = c.args.cells.now in
     let j = c.args.j in
     let H = cheapest o j (λ e. join o false (table_at m.held xs c.args.at (j - suc e)) (tagged e (row_at m.held xs c.args.child e))) in

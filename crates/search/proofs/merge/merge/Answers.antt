@@ -1,9 +1,10 @@
 use Rattle.std.proofs.Common.{◌≡◌, suc, ◌+◌, ◌-◌, ◌*◌, ◌<◌, get_or, None, sym, refl, ap, ◌∙◌, subst, inl, inr, suc-mul, eq-or-lt_of_le, arith, ltb-true}
 use Rattle.length_rule.specs.Costs.{kth_price}
-use Rattle.search_cells.specs.Cells.{kind, as_joined, as_reached, row_at, table_of, HasRoom}
+use Rattle.search_cells.specs.Cells.{as_joined, as_reached, row_at, table_of, HasRoom}
 use Rattle.search_theory.specs.Joining.{step}
 use Rattle.search_cells.proofs.Inplace.{rows_apart, joined_step}
 use Rattle.search.proofs.merge.merge.Goals as goal
+use Rattle.search_theory.specs.Costs.{kind_of}
 
 pub overflow_add-at : goal.overflow_add-at
 overflow_add-at g c =
@@ -33,7 +34,7 @@ merge_row-requires g c =
 pub loop-h-preserved : goal.loop-h-preserved
 loop-h-preserved g c =
     let m = g.P.Cost in
-    let o = kind m.nothing m.plus m.at_most in
+    let o = kind_of m in
     let w = c.args.limit + 1 in
     let h = c.loop-h.h - 1 in
     let base = c.args.base in

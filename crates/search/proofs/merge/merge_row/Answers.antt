@@ -1,8 +1,9 @@
 -- What is written of the row is not read again: the rest of it is joined from what stood there.
 use Rattle.std.proofs.Common.{◌+◌, ◌-◌, ◌<◌, length, None, sym, refl, ◌∙◌, subst, arith, rules}
-use Rattle.search_cells.specs.Cells.{kind, as_joined, as_reached, row_at, table_at, HasRoom, joined_row}
+use Rattle.search_cells.specs.Cells.{as_joined, as_reached, row_at, table_at, HasRoom, joined_row}
 use Rattle.search_cells.proofs.Inplace.{joined_row_same, kept_before, kept_after, back_more}
 use Rattle.search.proofs.merge.merge_row.Goals as goal
+use Rattle.search_theory.specs.Costs.{kind_of}
 
 pub joined-cell-requires : goal.joined-cell-requires
 joined-cell-requires g c =
@@ -21,7 +22,7 @@ loop-j-init g c = (λ k l. refl, λ k l. refl, λ j a b. absurd (omega arith))
 pub loop-j-preserved : goal.loop-j-preserved
 loop-j-preserved g c =
     let m = g.P.Cost in
-    let o = kind m.nothing m.plus m.at_most in
+    let o = kind_of m in
     let old = c.args.cells.now in
     let xs = c.loop-j.cells in
     let j = c.loop-j.j - 1 in

@@ -1,5 +1,5 @@
 use Rattle.std.proofs.Common.{◌+◌, ◌<◌, [], length, Some, None, refl, ap, ◌∙◌, arith, rules}
-use Rattle.search_cells.specs.Cells.{kind}
+use Rattle.search_theory.specs.Costs.{kind_of}
 use Rattle.search_cells.proofs.Filling.{cleared}
 use Rattle.search_cells.proofs.Inplace.{kept_before, forth_more}
 use Rattle.search.proofs.nodes.clear.Goals as goal
@@ -18,7 +18,7 @@ returns g c =
     let xs = c.loop-k.cells in
     let within : c.args.base < length xs = omega arith in
     record {
-      table = λ h j a b. cleared (kind m.nothing m.plus m.at_most) m.held xs c.args.base (c.args.limit + 1) _
+      table = λ h j a b. cleared (kind_of m) m.held xs c.args.base (c.args.limit + 1) _
           (ap (λ x. Some (record { cost = x; what = [] })) (ap m.held (c.to_cell-cost.ensures ∙ ap m.stored c.nothing.ensures) ∙ g.met.P.Cost.kept m.nothing))
           within (λ k l. c.loop-k.invariant.1 k (omega arith)) h j a (omega arith);
       before = kept_before None xs c.args.cells.now c.args.base _ c.args.base (omega arith) c.loop-k.invariant.0;

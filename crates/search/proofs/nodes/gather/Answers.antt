@@ -1,11 +1,12 @@
 -- One child more of the family is one row more in the table.
 use Rattle.std.proofs.Common.{◌≡◌, ◌+◌, ◌*◌, ◌<◌, map, get_or, None, refl, ap, ◌∙◌, arith}
 use Rattle.length_rule.specs.Costs.{kth_price}
-use Rattle.search_cells.specs.Cells.{kind, rows_of}
+use Rattle.search_cells.specs.Cells.{rows_of}
 use Rattle.search_cells.specs.Lists.{last_first}
 use Rattle.search_cells.proofs.Gathering.{gathered_room, gathered_more}
 use Rattle.search_theory.specs.Joining.{table}
 use Rattle.search.proofs.nodes.gather.Goals as goal
+use Rattle.search_theory.specs.Costs.{kind_of}
 
 pub merge-requires : goal.merge-requires
 merge-requires g c =
@@ -15,7 +16,7 @@ merge-requires g c =
       fits = c.requires.fits;
       own = omega arith;
       apart = omega arith;
-      room = λ h j a b. gathered_room (kind m.nothing m.plus m.at_most) m.held c.args.limit (kth_price m.nothing m.plus c.args.price) c.args.cells.now c.args.family.at
+      room = λ h j a b. gathered_room (kind_of m) m.held c.args.limit (kth_price m.nothing m.plus c.args.price) c.args.cells.now c.args.family.at
           (get_or c.loop-c.cells (c.args.base + h * (c.args.limit + 1) + j) None) c.loop-c.c h j (c.loop-c.invariant.1 h j a b) few;
     }
 
@@ -26,7 +27,7 @@ pub loop-c-preserved : goal.loop-c-preserved
 loop-c-preserved g c =
     let m = g.P.Cost in (
       λ i l. c.merge.ensures.before i l ∙ c.loop-c.invariant.0 i l,
-      gathered_more (kind m.nothing m.plus m.at_most) m.held c.args.limit (kth_price m.nothing m.plus c.args.price) c.args.cells.now c.args.family.at
+      gathered_more (kind_of m) m.held c.args.limit (kth_price m.nothing m.plus c.args.price) c.args.cells.now c.args.family.at
           c.loop-c.cells c.merge.new.cells c.args.base c.loop-c.c c.place.result (omega (arith, c.place.ensures.is)) (omega (arith, c.place.ensures.within)) c.loop-c.invariant.0 c.loop-c.invariant.1 c.merge.ensures.table,
     )
 
@@ -36,7 +37,7 @@ returns g c =
     let all : c.loop-c.c ≡ c.args.family.count = omega arith in
     record {
       table = λ h j a b. c.loop-c.invariant.1 h j a b
-          ∙ ap (λ n. table (kind m.nothing m.plus m.at_most) c.args.limit (kth_price m.nothing m.plus c.args.price) (map (rows_of m.held c.args.cells.now (c.args.limit + 1)) (last_first (λ k. k) 0 c.args.family.at n)) h j) all;
+          ∙ ap (λ n. table (kind_of m) c.args.limit (kth_price m.nothing m.plus c.args.price) (map (rows_of m.held c.args.cells.now (c.args.limit + 1)) (last_first (λ k. k) 0 c.args.family.at n)) h j) all;
       before = c.loop-c.invariant.0;
     }
 

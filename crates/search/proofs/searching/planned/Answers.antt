@@ -1,7 +1,7 @@
 -- The rows are the search's, so the driver's best entry and the marks handed down are the plan that is chosen.
 use Rattle.std.proofs.Common.{replicate, Some, refl, ap, ◌∙◌, arith}
 use Rattle.std.proofs.lemmas.List.{get_or-replicate}
-use Rattle.search_cells.specs.Cells.{kind}
+use Rattle.search_theory.specs.Costs.{kind_of}
 use Rattle.search_cells.specs.Families.{no_family, members}
 use Rattle.search.specs.Answers.{cost_of, marks_of_chosen}
 use Rattle.search.proofs.Outcome.{whole_choices, none_chosen, some_chosen}
@@ -36,13 +36,13 @@ decide-requires g c =
       ranks = omega (arith, c.link.auto.ranks);
       ranked = c.link.ensures.ranks;
       within = omega arith;
-      long = whole_choices (kind m.nothing m.plus m.at_most) m.held c.args.limit c.args.records.now c.args.spare.now c.args.prices.now c.requires.tree c.walk.new.cells c.walk.ensures.rows;
+      long = whole_choices (kind_of m) m.held c.args.limit c.args.records.now c.args.spare.now c.args.prices.now c.requires.tree c.walk.new.cells c.walk.ensures.rows;
     }
 
 pub returns-in-None : goal.returns-in-None
 returns-in-None g c =
     let m = g.P.Cost in
-    let is = none_chosen (kind m.nothing m.plus m.at_most) m.held c.args.limit c.args.records.now c.args.spare.now c.args.prices.now c.requires.tree c.walk.new.cells c.walk.ensures.rows c.in-None.ensures in
+    let is = none_chosen (kind_of m) m.held c.args.limit c.args.records.now c.args.spare.now c.args.prices.now c.requires.tree c.walk.new.cells c.walk.ensures.rows c.in-None.ensures in
     record { answer = ap cost_of is; marks = ap (marks_of_chosen c.args.marks.now) is }
 
 pub returns-in-Some : goal.returns-in-Some
@@ -50,7 +50,7 @@ returns-in-Some g c =
     let m = g.P.Cost in
     let x = c.in-Some.x in
     let ms = c.decide.new.marks in
-    let is = some_chosen (kind m.nothing m.plus m.at_most) m.held c.args.limit c.args.records.now c.args.spare.now c.args.prices.now c.requires.tree c.walk.new.cells c.walk.ensures.rows
+    let is = some_chosen (kind_of m) m.held c.args.limit c.args.records.now c.args.spare.now c.args.prices.now c.requires.tree c.walk.new.cells c.walk.ensures.rows
     x ms c.in-Some.ensures (omega arith) c.decide.ensures in
     record { answer = ap Some c.from_cell.ensures ∙ ap cost_of is; marks = ap (marks_of_chosen c.args.marks.now) is }
 

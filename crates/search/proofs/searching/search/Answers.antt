@@ -7,12 +7,13 @@ use Rattle.net.proofs.Properly.{proper_if}
 use Rattle.best_plan.specs.Cheapest.{HangsTogether}
 use Rattle.best_plan.specs.Chosen.{chosen}
 use Rattle.best_plan.proofs.Legals.{chosen_best}
-use Rattle.search_cells.specs.Cells.{kind, Searchable}
+use Rattle.search_cells.specs.Cells.{Searchable}
 use Rattle.search_cells.proofs.Narrow.{route_searchable}
 use Rattle.search.specs.declared.fault.SearchFault.TheVariants.{Cells, Marks}
 use Rattle.search.specs.Answers.{cells_needed, cost_of, marks_of_chosen}
 use Rattle.search.proofs.Outcome.{Searched, short, uneven, made}
 use Rattle.search.proofs.searching.search.Goals as goal
+use Rattle.search_theory.specs.Costs.{kind_of}
 
 proper : (r : Route) → Proper r.grid (records_of r)
 proper r = proper_if r.grid (records_of r) r.checked
@@ -23,7 +24,7 @@ hangs r = let p = proper r in record { some = p.some; earlier = p.earlier }
 pub returns-then-cells-needed : goal.returns-then-cells-needed
 returns-then-cells-needed g c =
     let m = g.P.Cost in
-    let o = kind m.nothing m.plus m.at_most in
+    let o = kind_of m in
     let rs = records_of c.args.route.now in
     let limit = c.args.limit.value in
     let cells = c.args.cells.now in
@@ -37,7 +38,7 @@ returns-then-cells-needed g c =
 pub returns-then-marks-records : goal.returns-then-marks-records
 returns-then-marks-records g c =
     let m = g.P.Cost in
-    let o = kind m.nothing m.plus m.at_most in
+    let o = kind_of m in
     let rs = records_of c.args.route.now in
     let limit = c.args.limit.value in
     let cells = c.args.cells.now in
@@ -71,7 +72,7 @@ overflow_cast-figure g c = omega (arith, c.figure.ensures, c.args.limit.fits)
 pub returns : goal.returns
 returns g c =
     let m = g.P.Cost in
-    let o = kind m.nothing m.plus m.at_most in
+    let o = kind_of m in
     let route = c.args.route.now in
     let rs = records_of route in
     let limit = c.args.limit.value in

@@ -2,7 +2,7 @@
 use Rattle.std.proofs.Common.{◌≡◌, ◌+◌, ◌-◌, ◌*◌, ◌<◌, ltb, map, length, get_or, sym, ap, ◌∙◌, subst, inl, inr, eq-or-lt_of_le, arith}
 use Rattle.best_plan.specs.Chosen.{problem}
 use Rattle.length_rule.specs.Costs.{kth_price}
-use Rattle.search_cells.specs.Cells.{kind, as_chosen, row_at, rows_of, table_of, five_rows}
+use Rattle.search_cells.specs.Cells.{as_chosen, row_at, rows_of, table_of, five_rows}
 use Rattle.search_theory.specs.Joining.{table, finish}
 use Rattle.search_theory.specs.Search.{row}
 use Rattle.search_cells.specs.Families.{no_family}
@@ -10,11 +10,12 @@ use Rattle.search_cells.proofs.Inplace.{rows_apart}
 use Rattle.search_cells.proofs.Kinship.{member_inside, few_members}
 use Rattle.search_cells.proofs.Walking.{node_right}
 use Rattle.search.proofs.walk.walk.Goals as goal
+use Rattle.search_theory.specs.Costs.{kind_of}
 
 pub loop-i-preserved : goal.loop-i-preserved
 loop-i-preserved g c k e a b d =
     let m = g.P.Cost in
-    let o = kind m.nothing m.plus m.at_most in
+    let o = kind_of m in
     let limit = c.args.limit in
     let w = limit + 1 in
     let i = c.loop-i.i - 1 in
