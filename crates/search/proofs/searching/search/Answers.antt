@@ -85,5 +85,5 @@ returns g c =
     let s =
     made o limit rs spare prices c.args.cells.now ms (hangs route) (omega (arith, c.needed-needed.ensures)) c.planned.new.cells c.planned.result c.planned.new.marks (omega (arith, ap length is))
     (c.planned.ensures.answer ∙ ap cost_of same) (c.planned.ensures.marks ∙ ap (marks_of_chosen ms) same)
-    (chosen_best m.lawful limit rs spare prices (hangs route)) in
+    (chosen_best g.met.P.Cost.lawful limit rs spare prices (hangs route)) in
     record { answer = s.answer; told = s.refused; marks = s.marks; alone = s.alone; kept = s.kept; best = s.best }
