@@ -11,22 +11,13 @@ ghost use Rattle.shares.specs.Shares.{Adds, AtMostOneEach, Exact, share_of, shar
 // The parts that make one use of a site.
 pub const SHARE_UNIT: u32 = 720_720;
 
-// The unit divided by the limit. No net has limit 0; it has no part.
-fn parts(limit: u8) -> u32
-    ensures { result ≡ share_of share_unit limit }
-{
-    if limit == 0 {
-        return 0;
-    }
-    SHARE_UNIT / limit as u32
-}
-
-// What one waiting net of this limit adds to the share of each tile of its route.
+// What one waiting net of this limit adds to the share of each tile of its route: the unit divided by the limit. No net
+// has limit 0; it adds nothing.
 pub fn share_of(limit: u8) -> u32
     ensures share { result ≡ share_of share_unit limit }
     ensures exact { Exact largest_limit share_unit limit result }
     ensures adds { Adds share_unit limit result }
     ensures bounded { AtMostOneEach share_unit }
 {
-    parts(limit)
+    SHARE_UNIT.checked_div(u32::from(limit)).unwrap_or(0)
 }
