@@ -14,10 +14,10 @@ impl Grid {
         ensures answer { sides_of result ≡ made rows columns }
         ensures told { told_by told result ≡ grid_refusal rows columns }
     {
-        if rows < 1 || rows > MOST {
+        if !(1..=MOST).contains(&rows) {
             return Err(GridFault::Rows(rows));
         }
-        if columns < 1 || columns > MOST {
+        if !(1..=MOST).contains(&columns) {
             return Err(GridFault::Columns(columns));
         }
         Ok(Grid { rows, columns })
