@@ -13,14 +13,10 @@ use stock::stock::Stock;
 impl<'b, S: Stock> Stock for Closure<'b, S> {
     ghost meaning = { λ s. closing s.marks.closed (S.Stock.meaning s.below.now) };
 
-    ghost sound = { λ s. closing_sound s.marks.closed (S.Stock.meaning s.below.now) (S.Stock.sound s.below.now) };
-
     // The marks, the stock that was lent, and what is fixed in it.
     ghost Fixed = { List Bool × GName × S.Stock.Fixed };
 
     ghost fixed = { λ s. (s.marks.closed, s.below.ghost_name, S.Stock.fixed s.below.now) };
-
-    ghost settled = { λ s t same. closing_settled (ap (λ f. f.0) same) (S.Stock.settled s.below.now t.below.now (ap (λ f. f.2) same)) };
 
     fn places(&self) -> usize {
         self.below.places()
@@ -46,4 +42,8 @@ impl<'b, S: Stock> Stock for Closure<'b, S> {
     fn give_back(&mut self, place: usize, n: u16) -> Result<(), StockFault> {
         self.below.give_back(place, n)
     }
+
+    ghost sound = { λ s. closing_sound s.marks.closed (S.Stock.meaning s.below.now) (S.Stock.sound s.below.now) };
+
+    ghost settled = { λ s t same. closing_settled (ap (λ f. f.0) same) (S.Stock.settled s.below.now t.below.now (ap (λ f. f.2) same)) };
 }

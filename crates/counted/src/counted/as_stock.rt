@@ -46,14 +46,10 @@ impl<'a> Counted<'a> {
 impl<'a> Stock for Counted<'a> {
     ghost meaning = { means };
 
-    ghost sound = { λ s. table_sound s.size.places s.table.now s.size.few };
-
     // The table that was lent, the size, the capacities, and the places past them.
     ghost Fixed = { GName × ℕ × List ℕ × List Place };
 
     ghost fixed = { λ s. (s.table.ghost_name, s.size.places, (means s).capacities, leaves s) };
-
-    ghost settled = { λ s t same. ap (λ f. f.2) same };
 
     fn places(&self) -> usize {
         self.count()
@@ -94,4 +90,8 @@ impl<'a> Stock for Counted<'a> {
         self.put(place, at.used - n);
         Ok(())
     }
+
+    ghost sound = { λ s. table_sound s.size.places s.table.now s.size.few };
+
+    ghost settled = { λ s t same. ap (λ f. f.2) same };
 }

@@ -35,14 +35,10 @@ impl OpenStock {
 impl Stock for OpenStock {
     ghost meaning = { means };
 
-    ghost sound = { λ s. wide_sound s.size.places s.uses.table s.size.few s.uses.each s.uses.small };
-
     // The count of places.
     ghost Fixed = { ℕ };
 
     ghost fixed = { λ s. s.size.places };
-
-    ghost settled = { λ s t same. ap (λ n. replicate n most) same };
 
     fn places(&self) -> usize {
         self.size.places()
@@ -83,4 +79,8 @@ impl Stock for OpenStock {
         self.put(place, used - n);
         Ok(())
     }
+
+    ghost sound = { λ s. wide_sound s.size.places s.uses.table s.size.few s.uses.each s.uses.small };
+
+    ghost settled = { λ s t same. ap (λ n. replicate n most) same };
 }
