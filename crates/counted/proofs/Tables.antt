@@ -2,7 +2,7 @@
 use Rattle.std.proofs.Common.{◌≡◌, ℕ, ◌<◌, min, List, map, length, get_or, take, set, sym, ap, ◌∙◌, arith, get_or-take}
 use lib.Seq.{take-set-lt, set-get_or}
 use Rattle.std.proofs.lemmas.List.{length-map, length-take, map-set, get_or-map}
-use Rattle.stock.specs.Meaning.{Meaning, count, capacity, used}
+use Rattle.stock.specs.Meaning.{Meaning, count, capacity}
 use Rattle.stock.specs.Calls.{with_use}
 use Rattle.counted.specs.declared.place.Place.{Place}
 use Rattle.counted.specs.Table.{of_table}
@@ -19,10 +19,6 @@ inside size table p h k = omega (arith, length-take size table)
 pub capacity_table : (size : ℕ) (table : List Place) (p : ℕ) (d : Place) → p < size → p < length table → capacity (of_table size table) p ≡ (get_or table p d).capacity
 capacity_table size table p d h k =
     get_or-map (λ (q : Place). q.capacity) (take size table) p d 0 (inside size table p h k) ∙ ap (λ (q : Place). q.capacity) (get_or-take size table p d h)
-
-pub used_table : (size : ℕ) (table : List Place) (p : ℕ) (d : Place) → p < size → p < length table → used (of_table size table) p ≡ (get_or table p d).used
-used_table size table p d h k =
-    get_or-map (λ (q : Place). q.used) (take size table) p d 0 (inside size table p h k) ∙ ap (λ (q : Place). q.used) (get_or-take size table p d h)
 
 pub capacities_stay : (size : ℕ) (table : List Place) (p : ℕ) (v d : Place) → p < size → p < length table → v.capacity ≡ (get_or table p d).capacity → (of_table size (set table p v)).capacities ≡ (of_table size table).capacities
 capacities_stay size table p v d h k e =
