@@ -1,4 +1,6 @@
 // The reserve as a stock.
+#![tactic(auto, using(crate::proofs::Reserves::count_reserved, crate::proofs::Reserves::capacity_reserved))]
+
 ghost use Rattle.std.specs.Prelude.{◌≡◌, ℕ};
 ghost use Rattle.std.proofs.Common.{ap};
 ghost use Rattle.std.specs.Borrow.{GName};
