@@ -126,7 +126,10 @@ mod tests {
     #[test]
     fn sizes(rt: HostRuntime) -> Result<(), Fail> {
         assert_eq!(rt; Size::new(8192)?.places(), 8192);
-        assert_eq!(rt; fault(8193), Some(StockFault::TooLarge(8193)));
+        assert_eq!(rt;
+            OpenStock::new(8193).err(),
+            Some(StockFault::TooLarge(8193))
+        );
         assert_eq!(rt; OpenStock::new(0)?.places(), 0);
         assert_eq!(rt;
             (
@@ -136,13 +139,6 @@ mod tests {
             (34, 7)
         );
         Ok(())
-    }
-
-    fn fault(places: usize) -> Option<StockFault> {
-        match OpenStock::new(places) {
-            Ok(_) => None,
-            Err(fault) => Some(fault),
-        }
     }
 
     // A stock on the first two of three places clears and counts only those.

@@ -1,9 +1,11 @@
 // Making a grid, and asking for its sides.
-ghost use Rattle.std.specs.Prelude.{◌≡◌};
+ghost use Rattle.std.specs.Prelude.{◌≡◌, Some};
 ghost use Rattle.refusal.specs.Told.{told_by};
-ghost use Rattle.grid.specs.Making.{sides_of, made, grid_refusal, told};
+ghost use Rattle.grid.specs.Making.{sides_of, made, grid_refusal, shown, told};
 
 use crate::shape::{Grid, GridFault};
+use std::error::Error;
+use std::fmt;
 
 // The most rows, and the most columns.
 const MOST: usize = 64;
@@ -35,3 +37,15 @@ impl Grid {
         self.columns
     }
 }
+
+impl fmt::Display for GridFault {
+    ghost output = { λ f. Some (shown f) };
+
+    fn fmt<W: fmt::Write>(&self, f: &mut fmt::Formatter<W>) -> fmt::Result {
+        match self {
+            GridFault::Rows(n) | GridFault::Columns(n) => write!(f, "refused with 1 and {n}"),
+        }
+    }
+}
+
+impl Error for GridFault {}
