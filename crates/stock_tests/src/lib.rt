@@ -39,10 +39,9 @@ mod tests {
             (100, [0, 0, 0, 0]),
         ];
         for (percent, expected) in rows {
-            assert_eq!(rt; left(percent, 0), Ok(expected[0]));
-            assert_eq!(rt; left(percent, 1), Ok(expected[1]));
-            assert_eq!(rt; left(percent, 7), Ok(expected[2]));
-            assert_eq!(rt; left(percent, 65535), Ok(expected[3]));
+            for (capacity, expected) in [0, 1, 7, 65535].into_iter().zip(expected) {
+                assert_eq!(rt; left(percent, capacity), Ok(expected));
+            }
         }
         assert_eq!(rt; left(101, 1), Err(StockFault::TooLarge(101)));
     }
