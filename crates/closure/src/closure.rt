@@ -1,20 +1,21 @@
 // The closure: tells no capacity where a place is closed.
-ghost use Rattle.std.specs.Prelude.{◌≡◌, true, false, replicate};
+ghost use Rattle.std.specs.Prelude.{◌≡◌, Bool, true, false, length, replicate};
 ghost use Rattle.closure.specs.Closed.{mark_after, mark_answer};
 ghost use Rattle.refusal.specs.Told.{told_by};
 ghost use Rattle.stock.specs.Calls.{question_refusal};
 ghost use Rattle.stock.specs.Faults.{told};
 
-use crate::marks::Marks;
 use stock::fault::StockFault;
 use stock::stock::Stock;
 
 pub mod as_stock;
 
+// A mark for each of 8,192 places, which is as many as any stock has: closed where it is set.
 #[derive(Drop)]
 pub struct Closure<'b, S> {
     below: &'b mut S,
-    marks: Marks,
+    marks: [bool; 8192],
+    ghost each: { length marks ≡ 8192 },
 }
 
 impl<'b, S: Stock> Closure<'b, S> {
@@ -22,11 +23,11 @@ impl<'b, S: Stock> Closure<'b, S> {
     pub fn new(below: &'b mut S) -> Closure<'b, S>
         ensures holds { result.below.now ≡ below.old }
         ensures lender { result.below.ghost_name ≡ below.entry.ghost_name }
-        ensures marked { result.marks.closed ≡ replicate 8192 false }
+        ensures marked { result.marks ≡ replicate 8192 false }
     {
         Closure {
             below,
-            marks: Marks::all_open(),
+            marks: [false; 8192],
         }
     }
 
@@ -34,35 +35,25 @@ impl<'b, S: Stock> Closure<'b, S> {
     pub fn close(&mut self, place: usize) -> Result<(), StockFault>
         ensures answer { result ≡ mark_answer (S.Stock.meaning self.old.below.now) place }
         ensures told { told_by told result ≡ question_refusal (S.Stock.meaning self.old.below.now) place }
-        ensures after { self.new.marks.closed ≡ mark_after (S.Stock.meaning self.old.below.now) self.old.marks.closed place true }
+        ensures after { self.new.marks ≡ mark_after (S.Stock.meaning self.old.below.now) self.old.marks place true }
         ensures same { self.new.below.now ≡ self.old.below.now }
         ensures lender { self.new.below.ghost_name ≡ self.old.below.ghost_name }
     {
-        self.mark(place, true)
+        self.below.capacity(place)?;
+        self.marks[place] = true;
+        Ok(())
     }
 
     // Refused exactly when the stock below has no such place.
     pub fn reopen(&mut self, place: usize) -> Result<(), StockFault>
         ensures answer { result ≡ mark_answer (S.Stock.meaning self.old.below.now) place }
         ensures told { told_by told result ≡ question_refusal (S.Stock.meaning self.old.below.now) place }
-        ensures after { self.new.marks.closed ≡ mark_after (S.Stock.meaning self.old.below.now) self.old.marks.closed place false }
+        ensures after { self.new.marks ≡ mark_after (S.Stock.meaning self.old.below.now) self.old.marks place false }
         ensures same { self.new.below.now ≡ self.old.below.now }
         ensures lender { self.new.below.ghost_name ≡ self.old.below.ghost_name }
     {
-        self.mark(place, false)
-    }
-
-    fn mark(&mut self, place: usize, closed: bool) -> Result<(), StockFault>
-        ensures answer { result ≡ mark_answer (S.Stock.meaning self.old.below.now) place }
-        ensures told { told_by told result ≡ question_refusal (S.Stock.meaning self.old.below.now) place }
-        ensures after { self.new.marks.closed ≡ mark_after (S.Stock.meaning self.old.below.now) self.old.marks.closed place closed }
-        ensures same { self.new.below.now ≡ self.old.below.now }
-        ensures lender { self.new.below.ghost_name ≡ self.old.below.ghost_name }
-    {
-        if place >= self.below.places() {
-            return Err(StockFault::NoPlace(place));
-        }
-        self.marks.put(place, closed);
+        self.below.capacity(place)?;
+        self.marks[place] = false;
         Ok(())
     }
 }

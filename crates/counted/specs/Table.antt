@@ -1,8 +1,7 @@
 -- What a table of places means as a stock.
-use Rattle.std.specs.Prelude.{◌≡◌, ℕ, true, List, ◌++◌, map, take, drop}
+use Rattle.std.specs.Prelude.{ℕ, List, ◌++◌, map, take, drop}
 use Rattle.std.proofs.Common.{zero-le}
-use Rattle.stock.specs.Calls.{exists}
-use Rattle.stock.specs.Meaning.{Meaning, capacity, used}
+use Rattle.stock.specs.Meaning.{Meaning}
 use Rattle.counted.specs.declared.place.Place.{Place}
 
 abbrev pub of_places : List Place → Meaning
@@ -22,9 +21,3 @@ unused p = record { capacity = p.capacity; used = 0; fits = (p.fits.0, zero-le) 
 -- the table with nothing in use at its first places
 abbrev pub cleared : ℕ → List Place → List Place
 cleared size table = map unused (take size table) ++ rest size table
-
--- a place exists, and this stands there
-pub record StandsAt (m : Meaning) (place : ℕ) (p : Place) : Type 0 where
-  pub there : exists m place ≡ true
-  pub its_capacity : p.capacity ≡ capacity m place
-  pub its_use : p.used ≡ used m place

@@ -1,6 +1,6 @@
 // Making a counted stock over a lent table.
-ghost use Rattle.std.specs.Prelude.{◌≡◌, length, MatchResult};
-ghost use Rattle.counted.specs.Table.{cleared};
+ghost use Rattle.std.specs.Prelude.{◌≡◌, length, map, MatchResult};
+ghost use Rattle.counted.specs.Table.{cleared, unused};
 ghost use Rattle.refusal.specs.Told.{told_by};
 ghost use Rattle.stock.specs.Faults.{told};
 ghost use Rattle.stock.specs.Making.{size_refusal};
@@ -34,7 +34,8 @@ impl<'a> Counted<'a> {
         ensures lender { result.table.ghost_name ≡ table.entry.ghost_name }
         ensures sized { result.size ≡ size }
     {
-        clear(table, size.places());
+        let count = table.len().min(size.places());
+        clear(&mut table[..count]);
         Counted::again(table, size)
     }
 
@@ -48,13 +49,11 @@ impl<'a> Counted<'a> {
     }
 }
 
-// Nothing in use at the first places of a table.
-fn clear(table: &mut [Place], size: usize)
-    ensures { table.new ≡ cleared size table.old }
+// Nothing in use at these places.
+fn clear(places: &mut [Place])
+    ensures { places.new ≡ map unused places.old }
 {
-    let mut place = 0;
-    while place < table.len() && place < size {
-        table[place].used = 0;
-        place += 1;
+    for place in places.iter_mut() {
+        place.used = 0;
     }
 }

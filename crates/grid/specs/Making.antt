@@ -1,5 +1,5 @@
 -- Which grids there are, and what making one answers.
-use Rattle.std.specs.Prelude.{ℕ, Bool, cond, ◌||◌, List, [], ◌∷◌, Ok, Err, Result, nat_lt}
+use Rattle.std.specs.Prelude.{ℕ, Bool, cond, ◌||◌, List, [], ◌∷◌, ◌++◌, Ok, Err, Result, nat_lt, codes, decimal}
 use Rattle.grid.specs.declared.shape.Grid.{Grid}
 use Rattle.grid.specs.declared.shape.GridFault.{GridFault}
 use Rattle.grid.specs.declared.shape.GridFault.TheVariants.{Rows, Columns}
@@ -8,6 +8,11 @@ use Rattle.grid.specs.declared.shape.GridFault.TheVariants.{Rows, Columns}
 abbrev pub told : GridFault → List ℕ
 told (Rows n) = 1 ∷ n ∷ []
 told (Columns n) = 1 ∷ n ∷ []
+
+-- the text of a refusal
+abbrev pub shown : GridFault → List ℕ
+shown (Rows n) = codes "refused with 1 and " ++ decimal n
+shown (Columns n) = codes "refused with 1 and " ++ decimal n
 
 -- a grid has no side of this many tiles
 abbrev pub outside : ℕ → Bool

@@ -8,11 +8,11 @@ mod tests {
 
     #[test]
     fn sides_are_refused(rt: HostRuntime) {
-        assert_eq!(rt; refusal(0, 0), Some(GridFault::Rows(0)));
-        assert_eq!(rt; refusal(65, 0), Some(GridFault::Rows(65)));
-        assert_eq!(rt; refusal(64, 0), Some(GridFault::Columns(0)));
-        assert_eq!(rt; refusal(1, 65), Some(GridFault::Columns(65)));
-        assert_eq!(rt; refusal(1, 1), None);
+        assert_eq!(rt; Grid::new(0, 0).err(), Some(GridFault::Rows(0)));
+        assert_eq!(rt; Grid::new(65, 0).err(), Some(GridFault::Rows(65)));
+        assert_eq!(rt; Grid::new(64, 0).err(), Some(GridFault::Columns(0)));
+        assert_eq!(rt; Grid::new(1, 65).err(), Some(GridFault::Columns(65)));
+        assert_eq!(rt; Grid::new(1, 1).err(), None);
     }
 
     #[test]
@@ -62,12 +62,5 @@ mod tests {
         assert_eq!(rt; grid.boundary_between(4094, 4095), Some(4031));
         assert_eq!(rt; grid.boundary_between(4031, 4095), Some(8063));
         Ok(())
-    }
-
-    fn refusal(rows: usize, columns: usize) -> Option<GridFault> {
-        match Grid::new(rows, columns) {
-            Ok(_) => None,
-            Err(fault) => Some(fault),
-        }
     }
 }

@@ -10,6 +10,7 @@ ghost use Rattle.refusal.specs.Told.{told_by};
 ghost use Rattle.stock.specs.Faults.{told};
 
 use stock::fault::StockFault;
+use stock::figures::Figures;
 use stock::stock::Stock;
 
 // Takes n at a place below, where the layer tells this capacity. Refused where the use would pass the capacity told,
@@ -26,8 +27,11 @@ pub fn take_below<S: Stock>(
     ensures kept { S.fixed below.new ≡ S.fixed below.old }
 {
     let used = below.used(place)?;
-    if n > capacity || used > capacity - n {
-        return Err(StockFault::Full(place));
-    }
+    let told = Figures {
+        place,
+        capacity,
+        used,
+    };
+    told.taken(n)?;
     below.take(place, n)
 }

@@ -5,10 +5,11 @@ use Rattle.std.proofs.lemmas.List.{length-replicate}
 use Rattle.stock.specs.Meaning.{Sound, most, most_places}
 use Rattle.open_stock.specs.Wide.{wide}
 
-all_most : (n place : ℕ) → slice_index (replicate n most) place ≤ most
-all_most zero place = zero-le
-all_most (suc n) zero = omega arith
-all_most (suc n) (suc place) = all_most n place
+-- a list of one small number is small
+pub small_replicate : (n v place : ℕ) → v ≤ most → slice_index (replicate n v) place ≤ most
+small_replicate zero v place h = zero-le
+small_replicate (suc n) v zero h = h
+small_replicate (suc n) v (suc place) h = small_replicate n v place h
 
 small_front : (n : ℕ) (table : List ℕ) → ((place : ℕ) → slice_index table place ≤ most) → (place : ℕ) → slice_index (take n table) place ≤ most
 small_front zero table h place = zero-le
@@ -20,6 +21,6 @@ pub wide_sound : (places : ℕ) (table : List ℕ) → places ≤ most_places �
 wide_sound places table few each small = record {
   as_many_uses = omega (arith, length-take places table, length-replicate places most);
   few_places = omega (arith, length-replicate places most);
-  small_capacities = all_most places;
+  small_capacities = λ place. small_replicate places most place (omega arith);
   small_uses = small_front places table small;
 }

@@ -4,4 +4,4 @@ use Rattle.open_stock.specs.declared.wide.OpenStock.{OpenStock}
 use Rattle.open_stock.specs.Wide.{wide}
 
 abbrev pub means : OpenStock → Meaning
-means s = wide s.size.places s.uses.table
+means s = wide s.size.places s.uses

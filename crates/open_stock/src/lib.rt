@@ -3,5 +3,4 @@
 // It refuses a taking only where the use would pass 65,535. The crate uses the crates `refusal` and `stock`.
 #![tactic(auto)]
 
-mod uses;
 pub mod wide;

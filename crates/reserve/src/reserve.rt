@@ -27,6 +27,7 @@ impl<'b, S: Stock> Reserve<'b, S> {
 fn left_of(percent: Percent, capacity: u16) -> u16
     ensures { result ≡ left percent.value capacity }
 {
-    let held = (capacity as u32 * percent.value() as u32 + 99) / 100;
-    (capacity as u32 - held) as u16
+    let capacity = u32::from(capacity);
+    let held = (capacity * u32::from(percent.value())).div_ceil(100);
+    (capacity - held) as u16
 }

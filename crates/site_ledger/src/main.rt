@@ -2,7 +2,7 @@
 // that; sites are taken and given back, and each reason to refuse is met once.
 #![tactic(auto)]
 
-use anyhow::anyhow;
+use anyhow::Context;
 use closure::closure::Closure;
 use counted::counted::Counted;
 use counted::place::Place;
@@ -16,45 +16,17 @@ use stock::stock::Stock;
 
 // Sites for each of six tiles, as the block designers left them.
 fn sites() -> [Place; 6] {
-    let none = Place {
-        capacity: 0,
-        used: 0,
-    };
-    let mut sites = [none; 6];
-    sites[0] = Place {
-        capacity: 4,
-        used: 0,
-    };
-    sites[2] = Place {
-        capacity: 7,
-        used: 0,
-    };
-    sites[3] = Place {
-        capacity: 10,
-        used: 0,
-    };
-    sites[4] = Place {
-        capacity: 1,
-        used: 0,
-    };
-    sites[5] = Place {
-        capacity: 3,
-        used: 0,
-    };
-    sites
+    [4, 0, 7, 10, 1, 3].map(|capacity| Place { capacity, used: 0 })
 }
 
 // One line of the ledger for each place of a stock.
 fn print_places<S: Stock>(rt: &impl Print, stock: &S) -> anyhow::Result<()> {
     println!(rt; "  tile  told   use spare")?;
     for tile in 0..stock.places() {
-        if let (Ok(told), Ok(used), Ok(left)) = (
-            stock.capacity(tile),
-            stock.used(tile),
-            spare(stock, tile),
-        ) {
-            println!(rt; "{tile:6}{told:6}{used:6}{left:6}")?;
-        }
+        let told = stock.capacity(tile)?;
+        let used = stock.used(tile)?;
+        let left = spare(stock, tile)?;
+        println!(rt; "{tile:6}{told:6}{used:6}{left:6}")?;
     }
     Ok(())
 }
@@ -63,11 +35,7 @@ fn print_places<S: Stock>(rt: &impl Print, stock: &S) -> anyhow::Result<()> {
 fn print_answer(rt: &impl Print, call: &str, answer: Result<(), StockFault>) -> anyhow::Result<()> {
     match answer {
         Ok(()) => println!(rt; "{call}: done")?,
-        Err(fault) => {
-            let number = fault.number();
-            let value = fault.value();
-            println!(rt; "{call}: refused with {number} and {value}")?;
-        }
+        Err(fault) => println!(rt; "{call}: {fault}")?,
     }
     Ok(())
 }
@@ -84,10 +52,7 @@ fn work<S: Stock>(rt: &impl Print, stock: &mut S) -> anyhow::Result<()> {
 
 // What is refused before a stock stands.
 fn print_refused_makings(rt: &impl Print) -> anyhow::Result<()> {
-    if let Err(fault) = Percent::new(101) {
-        print_answer(rt, "hold back 101 percent", Err(fault))?;
-    }
-    Ok(())
+    print_answer(rt, "hold back 101 percent", Percent::new(101).map(drop))
 }
 
 // A closure over any stock: the calls, and a tile closed while it is in use.
@@ -118,16 +83,10 @@ fn day(rt: &impl Print, table: &mut [Place], size: Size, percent: Percent) -> an
 }
 
 fn main(rt: HostRuntime) -> anyhow::Result<()> {
-    let Ok(grid) = Grid::new(2, 3) else {
-        return Err(anyhow!("no such grid"));
-    };
+    let grid = Grid::new(2, 3).context("no such grid")?;
     let mut table = sites();
-    let Ok(size) = Counted::size_of(&table) else {
-        return Err(anyhow!("too many tiles"));
-    };
-    let Ok(quarter) = Percent::new(25) else {
-        return Err(anyhow!("no such percentage"));
-    };
+    let size = Counted::size_of(&table).context("too many tiles")?;
+    let quarter = Percent::new(25).context("no such percentage")?;
     let rows = grid.rows();
     let columns = grid.columns();
     let tiles = grid.tile_count();

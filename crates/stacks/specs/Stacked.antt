@@ -7,7 +7,8 @@ use Rattle.stock.specs.Calls.{spare_answer}
 use Rattle.stock.specs.Meaning.{Meaning, most_places}
 use Rattle.stock.specs.declared.fault.StockFault.{StockFault}
 use Rattle.stock.specs.declared.fault.StockFault.TheVariants.{TooLarge}
-use Rattle.stacks.specs.Under.{one_closed}
+use Rattle.stacks.specs.Filling.{filled}
+use Rattle.stacks.specs.Under.{one_closed, under}
 
 -- a closure with one place closed
 abbrev pub closed_over : ℕ → Meaning → Meaning
@@ -18,6 +19,10 @@ closure_on_reserve percent closed below = closed_over closed (reserved percent b
 
 abbrev pub reserve_on_closure : ℕ → ℕ → Meaning → Meaning
 reserve_on_closure percent closed below = reserved percent (closed_over closed below)
+
+-- what a stock means after all that is spare at a place under a layer was taken there
+abbrev pub drained : (Meaning → Meaning) → Meaning → ℕ → Meaning
+drained layer below place = under below (filled (layer below) place)
 
 -- an open stock as it is made
 unfoldable pub wide_open : ℕ → Meaning

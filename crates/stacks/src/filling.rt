@@ -10,6 +10,7 @@ use stock::questions::spare;
 use stock::stock::Stock;
 
 // Answers how much was taken: nothing where the use passes the capacity.
+#[tactic(auto, using(crate::proofs::Fills::nothing_spare))]
 pub fn take_spare<S: Stock>(stock: &mut S, place: usize) -> Result<u16, StockFault>
     ensures answer { result ≡ spare_answer (S.meaning stock.old) place }
     ensures told { told_by told result ≡ question_refusal (S.meaning stock.old) place }

@@ -1,16 +1,14 @@
 // Hosts that stack layers over a lent table and over an open stock.
 ghost use Rattle.std.specs.Prelude.{◌≡◌};
 ghost use Rattle.counted.specs.Table.{of_table, rest};
-ghost use Rattle.stacks.specs.Filling.{filled};
-ghost use Rattle.stacks.specs.Stacked.{closure_on_reserve, open_answer, reserve_on_closure};
-ghost use Rattle.stacks.specs.Under.{under};
+ghost use Rattle.stacks.specs.Stacked.{closure_on_reserve, drained, open_answer, reserve_on_closure};
 ghost use Rattle.stock.specs.Calls.{spare_answer};
 
 use crate::layered::{close_one, through_closure, through_reserve};
+use crate::layers::Layers;
 use counted::counted::Counted;
 use counted::place::Place;
 use open_stock::wide::OpenStock;
-use reserve::percent::Percent;
 use reserve::reserve::Reserve;
 use stock::fault::StockFault;
 use stock::size::Size;
@@ -19,58 +17,50 @@ use stock::stock::Stock;
 // A closure over a reserve over any stock.
 pub fn closure_over_reserve<S: Stock>(
     stock: &mut S,
-    percent: Percent,
-    closed: usize,
+    layers: Layers,
     place: usize,
 ) -> Result<u16, StockFault>
-    ensures answer { result ≡ spare_answer (closure_on_reserve percent.value closed (S.meaning stock.old)) place }
-    ensures after { S.meaning stock.new ≡ under (S.meaning stock.old) (filled (closure_on_reserve percent.value closed (S.meaning stock.old)) place) }
+    ensures answer { result ≡ spare_answer (closure_on_reserve layers.percent.value layers.closed (S.meaning stock.old)) place }
+    ensures after { S.meaning stock.new ≡ drained (closure_on_reserve layers.percent.value layers.closed) (S.meaning stock.old) place }
     ensures kept { S.fixed stock.new ≡ S.fixed stock.old }
 {
-    let mut reserve = Reserve::new(stock, percent);
-    through_closure(&mut reserve, closed, place)
+    let mut reserve = Reserve::new(stock, layers.percent);
+    through_closure(&mut reserve, layers.closed, place)
 }
 
 // A reserve over a closure over any stock.
 pub fn reserve_over_closure<S: Stock>(
     stock: &mut S,
-    percent: Percent,
-    closed: usize,
+    layers: Layers,
     place: usize,
 ) -> Result<u16, StockFault>
-    ensures answer { result ≡ spare_answer (reserve_on_closure percent.value closed (S.meaning stock.old)) place }
-    ensures after { S.meaning stock.new ≡ under (S.meaning stock.old) (filled (reserve_on_closure percent.value closed (S.meaning stock.old)) place) }
+    ensures answer { result ≡ spare_answer (reserve_on_closure layers.percent.value layers.closed (S.meaning stock.old)) place }
+    ensures after { S.meaning stock.new ≡ drained (reserve_on_closure layers.percent.value layers.closed) (S.meaning stock.old) place }
     ensures kept { S.fixed stock.new ≡ S.fixed stock.old }
 {
-    let mut closure = close_one(stock, closed);
-    through_reserve(&mut closure, percent, place)
+    let mut closure = close_one(stock, layers.closed);
+    through_reserve(&mut closure, layers.percent, place)
 }
 
 // A closure over a reserve over a counted stock that is made again over its table, which then holds the new uses.
 pub fn over_table(
     table: &mut [Place],
     size: Size,
-    percent: Percent,
-    closed: usize,
+    layers: Layers,
     place: usize,
 ) -> Result<u16, StockFault>
-    ensures answer { result ≡ spare_answer (closure_on_reserve percent.value closed (of_table size.places table.old)) place }
-    ensures after { of_table size.places table.new ≡ under (of_table size.places table.old) (filled (closure_on_reserve percent.value closed (of_table size.places table.old)) place) }
+    ensures answer { result ≡ spare_answer (closure_on_reserve layers.percent.value layers.closed (of_table size.places table.old)) place }
+    ensures after { of_table size.places table.new ≡ drained (closure_on_reserve layers.percent.value layers.closed) (of_table size.places table.old) place }
     ensures past { rest size.places table.new ≡ rest size.places table.old }
 {
     let mut counted = Counted::again(table, size);
-    closure_over_reserve(&mut counted, percent, closed, place)
+    closure_over_reserve(&mut counted, layers, place)
 }
 
 // A reserve over a closure over an open stock of so many places.
-pub fn over_open(
-    places: usize,
-    percent: Percent,
-    closed: usize,
-    place: usize,
-) -> Result<u16, StockFault>
-    ensures { result ≡ open_answer places percent.value closed place }
+pub fn over_open(places: usize, layers: Layers, place: usize) -> Result<u16, StockFault>
+    ensures { result ≡ open_answer places layers.percent.value layers.closed place }
 {
     let mut open = OpenStock::new(places)?;
-    reserve_over_closure(&mut open, percent, closed, place)
+    reserve_over_closure(&mut open, layers, place)
 }

@@ -1,9 +1,8 @@
 // The same through layers, on any stock.
 ghost use Rattle.std.specs.Prelude.{◌≡◌};
 ghost use Rattle.reserve.specs.Reserved.{reserved};
-ghost use Rattle.stacks.specs.Filling.{filled};
-ghost use Rattle.stacks.specs.Stacked.{closed_over};
-ghost use Rattle.stacks.specs.Under.{one_closed, under};
+ghost use Rattle.stacks.specs.Stacked.{closed_over, drained};
+ghost use Rattle.stacks.specs.Under.{one_closed};
 ghost use Rattle.stock.specs.Calls.{spare_answer};
 
 use crate::filling::take_spare;
@@ -20,7 +19,7 @@ pub fn through_reserve<S: Stock>(
     place: usize,
 ) -> Result<u16, StockFault>
     ensures answer { result ≡ spare_answer (reserved percent.value (S.meaning stock.old)) place }
-    ensures after { S.meaning stock.new ≡ under (S.meaning stock.old) (filled (reserved percent.value (S.meaning stock.old)) place) }
+    ensures after { S.meaning stock.new ≡ drained (reserved percent.value) (S.meaning stock.old) place }
     ensures kept { S.fixed stock.new ≡ S.fixed stock.old }
 {
     let mut reserve = Reserve::new(stock, percent);
@@ -31,7 +30,7 @@ pub fn through_reserve<S: Stock>(
 pub fn close_one<'b, S: Stock>(stock: &'b mut S, closed: usize) -> Closure<'b, S>
     ensures holds { result.below.now ≡ stock.old }
     ensures lender { result.below.ghost_name ≡ stock.entry.ghost_name }
-    ensures marked { result.marks.closed ≡ one_closed (S.meaning stock.old) closed }
+    ensures marked { result.marks ≡ one_closed (S.meaning stock.old) closed }
 {
     let mut closure = Closure::new(stock);
     let _ = closure.close(closed);
@@ -45,7 +44,7 @@ pub fn through_closure<S: Stock>(
     place: usize,
 ) -> Result<u16, StockFault>
     ensures answer { result ≡ spare_answer (closed_over closed (S.meaning stock.old)) place }
-    ensures after { S.meaning stock.new ≡ under (S.meaning stock.old) (filled (closed_over closed (S.meaning stock.old)) place) }
+    ensures after { S.meaning stock.new ≡ drained (closed_over closed) (S.meaning stock.old) place }
     ensures kept { S.fixed stock.new ≡ S.fixed stock.old }
 {
     let mut closure = close_one(stock, closed);

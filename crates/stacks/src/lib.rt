@@ -8,3 +8,4 @@
 pub mod filling;
 pub mod hosts;
 pub mod layered;
+pub mod layers;

@@ -2,3 +2,4 @@ pub mod Meaning
 pub mod Faults
 pub mod Calls
 pub mod Making
+pub mod Figures

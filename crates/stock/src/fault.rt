@@ -1,7 +1,10 @@
 // The refusals of stocks and of making them.
-ghost use Rattle.std.specs.Prelude.{◌≡◌};
-ghost use Rattle.stock.specs.Faults.{told};
+ghost use Rattle.std.specs.Prelude.{◌≡◌, Some};
+ghost use Rattle.stock.specs.Faults.{shown, told};
 ghost use Rattle.refusal.specs.Told.{number_in, value_in};
+
+use std::error::Error;
+use std::fmt;
 
 #[derive(Clone, Copy, PartialEq, Eq, Debug)]
 pub enum StockFault {
@@ -33,10 +36,20 @@ impl StockFault {
         ensures { result ≡ value_in (told self) }
     {
         match self {
-            StockFault::NoPlace(place) => place,
-            StockFault::Full(place) => place,
-            StockFault::Lacking(place) => place,
-            StockFault::TooLarge(figure) => figure,
+            StockFault::NoPlace(value)
+            | StockFault::Full(value)
+            | StockFault::Lacking(value)
+            | StockFault::TooLarge(value) => value,
         }
     }
 }
+
+impl fmt::Display for StockFault {
+    ghost output = { λ f. Some (shown f) };
+
+    fn fmt<W: fmt::Write>(&self, f: &mut fmt::Formatter<W>) -> fmt::Result {
+        write!(f, "refused with {} and {}", self.number(), self.value())
+    }
+}
+
+impl Error for StockFault {}

@@ -7,6 +7,7 @@
 #![tactic(auto)]
 
 pub mod fault;
+pub mod figures;
 pub mod questions;
 pub mod size;
 pub mod stock;

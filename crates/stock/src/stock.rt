@@ -11,15 +11,11 @@ use crate::fault::StockFault;
 pub trait Stock {
     ghost meaning: { Self → Meaning };
 
-    ghost sound: { (s : Self) → Sound (meaning s) };
-
     // What no call of this trait changes. The capacities told rest on nothing else. It also holds which tables were
     // lent, so that whoever lends one to a stock, or a stock to a layer, knows afterwards what it holds.
     ghost Fixed: { Type 0 };
 
     ghost fixed: { Self → Fixed };
-
-    ghost settled: { (s t : Self) → fixed s ≡ fixed t → (meaning s).capacities ≡ (meaning t).capacities };
 
     // The count of places.
     fn places(&self) -> usize
@@ -46,4 +42,9 @@ pub trait Stock {
         ensures told { told_by told result ≡ give_refusal (meaning self.old) place n }
         ensures after { meaning self.new ≡ give_after (meaning self.old) place n }
         ensures kept { fixed self.new ≡ fixed self.old };
+
+    // Laws of every stock: its meaning is sound, and its capacities rest on nothing but what is fixed.
+    ghost sound: { (s : Self) → Sound (meaning s) };
+
+    ghost settled: { (s t : Self) → fixed s ≡ fixed t → (meaning s).capacities ≡ (meaning t).capacities };
 }

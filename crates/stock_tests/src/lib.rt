@@ -39,10 +39,9 @@ mod tests {
             (100, [0, 0, 0, 0]),
         ];
         for (percent, expected) in rows {
-            assert_eq!(rt; left(percent, 0), Ok(expected[0]));
-            assert_eq!(rt; left(percent, 1), Ok(expected[1]));
-            assert_eq!(rt; left(percent, 7), Ok(expected[2]));
-            assert_eq!(rt; left(percent, 65535), Ok(expected[3]));
+            for (capacity, expected) in [0, 1, 7, 65535].into_iter().zip(expected) {
+                assert_eq!(rt; left(percent, capacity), Ok(expected));
+            }
         }
         assert_eq!(rt; left(101, 1), Err(StockFault::TooLarge(101)));
     }
@@ -126,7 +125,10 @@ mod tests {
     #[test]
     fn sizes(rt: HostRuntime) -> Result<(), Fail> {
         assert_eq!(rt; Size::new(8192)?.places(), 8192);
-        assert_eq!(rt; fault(8193), Some(StockFault::TooLarge(8193)));
+        assert_eq!(rt;
+            OpenStock::new(8193).err(),
+            Some(StockFault::TooLarge(8193))
+        );
         assert_eq!(rt; OpenStock::new(0)?.places(), 0);
         assert_eq!(rt;
             (
@@ -136,13 +138,6 @@ mod tests {
             (34, 7)
         );
         Ok(())
-    }
-
-    fn fault(places: usize) -> Option<StockFault> {
-        match OpenStock::new(places) {
-            Ok(_) => None,
-            Err(fault) => Some(fault),
-        }
     }
 
     // A stock on the first two of three places clears and counts only those.

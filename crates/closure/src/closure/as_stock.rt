@@ -1,4 +1,6 @@
 // The closure as a stock.
+#![tactic(auto, using(crate::proofs::Closures::count_closing, crate::proofs::Closures::capacity_closing))]
+
 ghost use Rattle.std.specs.Prelude.{◌≡◌, Bool, List};
 ghost use Rattle.std.proofs.Common.{ap};
 ghost use Rattle.std.specs.Borrow.{GName};
@@ -11,16 +13,12 @@ use stock::fault::StockFault;
 use stock::stock::Stock;
 
 impl<'b, S: Stock> Stock for Closure<'b, S> {
-    ghost meaning = { λ s. closing s.marks.closed (S.Stock.meaning s.below.now) };
-
-    ghost sound = { λ s. closing_sound s.marks.closed (S.Stock.meaning s.below.now) (S.Stock.sound s.below.now) };
+    ghost meaning = { λ s. closing s.marks (S.Stock.meaning s.below.now) };
 
     // The marks, the stock that was lent, and what is fixed in it.
     ghost Fixed = { List Bool × GName × S.Stock.Fixed };
 
-    ghost fixed = { λ s. (s.marks.closed, s.below.ghost_name, S.Stock.fixed s.below.now) };
-
-    ghost settled = { λ s t same. closing_settled (ap (λ f. f.0) same) (S.Stock.settled s.below.now t.below.now (ap (λ f. f.2) same)) };
+    ghost fixed = { λ s. (s.marks, s.below.ghost_name, S.Stock.fixed s.below.now) };
 
     fn places(&self) -> usize {
         self.below.places()
@@ -28,10 +26,7 @@ impl<'b, S: Stock> Stock for Closure<'b, S> {
 
     fn capacity(&self, place: usize) -> Result<u16, StockFault> {
         let capacity = self.below.capacity(place)?;
-        if self.marks.is_closed(place) {
-            return Ok(0);
-        }
-        Ok(capacity)
+        Ok(if self.marks[place] { 0 } else { capacity })
     }
 
     fn used(&self, place: usize) -> Result<u16, StockFault> {
@@ -46,4 +41,8 @@ impl<'b, S: Stock> Stock for Closure<'b, S> {
     fn give_back(&mut self, place: usize, n: u16) -> Result<(), StockFault> {
         self.below.give_back(place, n)
     }
+
+    ghost sound = { λ s. closing_sound s.marks (S.Stock.meaning s.below.now) (S.Stock.sound s.below.now) };
+
+    ghost settled = { λ s t same. closing_settled (ap (λ f. f.0) same) (S.Stock.settled s.below.now t.below.now (ap (λ f. f.2) same)) };
 }

@@ -1,34 +1,40 @@
 // The counted stock as a stock.
-ghost use Rattle.std.specs.Prelude.{◌≡◌, ℕ, true, false, List, MatchOption};
+ghost use Rattle.std.specs.Prelude.{◌≡◌, ℕ, true, List};
 ghost use Rattle.std.proofs.Common.{ap};
 ghost use Rattle.std.specs.Borrow.{GName};
 ghost use Rattle.counted.specs.Soundness.{table_sound};
-ghost use Rattle.counted.specs.Stands.{leaves, means};
-ghost use Rattle.counted.specs.Table.{StandsAt};
+ghost use Rattle.counted.specs.Stands.{leaves, means, stands_on};
 ghost use Rattle.counted.specs.declared.place.Place.{Place};
 ghost use Rattle.stock.specs.Calls.{exists, with_use};
-ghost use Rattle.stock.specs.Meaning.{count};
+ghost use Rattle.stock.specs.Figures.{figures_answer};
 
 use crate::counted::Counted;
 use crate::place::Place;
 use stock::fault::StockFault;
+use stock::figures::Figures;
 use stock::stock::Stock;
 
 impl<'a> Counted<'a> {
-    fn count(&self) -> usize
-        ensures { result ≡ count (means self.now) }
+    // The places of its table that it stands on.
+    fn stands_on(&self) -> &[Place]
+        ensures { result.now ≡ stands_on self.now }
     {
-        self.table.len().min(self.size.places())
+        let count = self.table.len().min(self.size.places());
+        &self.table[..count]
     }
 
-    // What stands at a place, if there is such a place.
-    fn at(&self, place: usize) -> Option<Place>
-        ensures { MatchOption result (exists (means self.now) place ≡ false) (StandsAt (means self.now) place) }
+    // The figures of a place, if there is such a place.
+    fn at(&self, place: usize) -> Result<Figures, StockFault>
+        ensures { result ≡ figures_answer (means self.now) place }
     {
-        if place >= self.count() {
-            return None;
-        }
-        Some(self.table[place])
+        let Some(&Place { capacity, used }) = self.stands_on().get(place) else {
+            return Err(StockFault::NoPlace(place));
+        };
+        Ok(Figures {
+            place,
+            capacity,
+            used,
+        })
     }
 
     // Another use at a place that exists.
@@ -46,52 +52,36 @@ impl<'a> Counted<'a> {
 impl<'a> Stock for Counted<'a> {
     ghost meaning = { means };
 
-    ghost sound = { λ s. table_sound s.size.places s.table.now s.size.few };
-
     // The table that was lent, the size, the capacities, and the places past them.
     ghost Fixed = { GName × ℕ × List ℕ × List Place };
 
     ghost fixed = { λ s. (s.table.ghost_name, s.size.places, (means s).capacities, leaves s) };
 
-    ghost settled = { λ s t same. ap (λ f. f.2) same };
-
     fn places(&self) -> usize {
-        self.count()
+        self.stands_on().len()
     }
 
     fn capacity(&self, place: usize) -> Result<u16, StockFault> {
-        match self.at(place) {
-            Some(at) => Ok(at.capacity),
-            None => Err(StockFault::NoPlace(place)),
-        }
+        Ok(self.at(place)?.capacity)
     }
 
     fn used(&self, place: usize) -> Result<u16, StockFault> {
-        match self.at(place) {
-            Some(at) => Ok(at.used),
-            None => Err(StockFault::NoPlace(place)),
-        }
+        Ok(self.at(place)?.used)
     }
 
     fn take(&mut self, place: usize, n: u16) -> Result<(), StockFault> {
-        let Some(at) = self.at(place) else {
-            return Err(StockFault::NoPlace(place));
-        };
-        if n > at.capacity || at.used > at.capacity - n {
-            return Err(StockFault::Full(place));
-        }
-        self.put(place, at.used + n);
+        let used = self.at(place)?.taken(n)?;
+        self.put(place, used);
         Ok(())
     }
 
     fn give_back(&mut self, place: usize, n: u16) -> Result<(), StockFault> {
-        let Some(at) = self.at(place) else {
-            return Err(StockFault::NoPlace(place));
-        };
-        if n > at.used {
-            return Err(StockFault::Lacking(place));
-        }
-        self.put(place, at.used - n);
+        let used = self.at(place)?.given(n)?;
+        self.put(place, used);
         Ok(())
     }
+
+    ghost sound = { λ s. table_sound s.size.places s.table.now s.size.few };
+
+    ghost settled = { λ s t same. ap (λ f. f.2) same };
 }

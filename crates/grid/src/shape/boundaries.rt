@@ -8,11 +8,7 @@ use crate::shape::Grid;
 fn one_apart(a: usize, b: usize) -> bool
     ensures { result ≡ one_apart a b }
 {
-    if a < b {
-        b - a == 1
-    } else {
-        a > b && a - b == 1
-    }
+    a.abs_diff(b) == 1
 }
 
 fn share_a_side(p: (usize, usize), q: (usize, usize)) -> bool
@@ -23,6 +19,7 @@ fn share_a_side(p: (usize, usize), q: (usize, usize)) -> bool
 
 impl Grid {
     // How many boundaries there are; their numbers lie below this, and each is that of a pair of neighbours.
+    #[tactic(auto, using(crate::proofs::Pairs::each_has_pair))]
     pub fn boundary_count(self) -> usize
         ensures answer { result ≡ boundary_count self }
         ensures each { EachBoundaryHasPair self }
@@ -34,10 +31,7 @@ impl Grid {
     pub fn neighbours(self, s: usize, t: usize) -> bool
         ensures { result ≡ neighbours self s t }
     {
-        match (self.place(s), self.place(t)) {
-            (Some(p), Some(q)) => share_a_side(p, q),
-            _ => false,
-        }
+        self.boundary_between(s, t).is_some()
     }
 
     // The boundary of two places that share a side: right of the left one, or below the upper one.
@@ -53,21 +47,6 @@ impl Grid {
         }
     }
 
-    fn boundary_told(self, s: usize, t: usize) -> Option<usize>
-        ensures { result ≡ boundary_between self s t }
-    {
-        match (self.place(s), self.place(t)) {
-            (Some(p), Some(q)) => {
-                if share_a_side(p, q) {
-                    Some(self.boundary_at(p, q))
-                } else {
-                    None
-                }
-            }
-            _ => None,
-        }
-    }
-
     // The boundary between two tiles, whichever is named first, or None where they are no neighbours.
     pub fn boundary_between(self, s: usize, t: usize) -> Option<usize>
         ensures answer { result ≡ boundary_between self s t }
@@ -75,6 +54,8 @@ impl Grid {
         ensures counted { BoundaryCounted self }
         ensures tells_pair { BoundaryTellsPair self }
     {
-        self.boundary_told(s, t)
+        let p = self.place(s)?;
+        let q = self.place(t)?;
+        share_a_side(p, q).then(|| self.boundary_at(p, q))
     }
 }

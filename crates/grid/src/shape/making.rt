@@ -1,9 +1,11 @@
 // Making a grid, and asking for its sides.
-ghost use Rattle.std.specs.Prelude.{◌≡◌};
+ghost use Rattle.std.specs.Prelude.{◌≡◌, Some};
 ghost use Rattle.refusal.specs.Told.{told_by};
-ghost use Rattle.grid.specs.Making.{sides_of, made, grid_refusal, told};
+ghost use Rattle.grid.specs.Making.{sides_of, made, grid_refusal, shown, told};
 
 use crate::shape::{Grid, GridFault};
+use std::error::Error;
+use std::fmt;
 
 // The most rows, and the most columns.
 const MOST: usize = 64;
@@ -14,10 +16,10 @@ impl Grid {
         ensures answer { sides_of result ≡ made rows columns }
         ensures told { told_by told result ≡ grid_refusal rows columns }
     {
-        if rows < 1 || rows > MOST {
+        if !(1..=MOST).contains(&rows) {
             return Err(GridFault::Rows(rows));
         }
-        if columns < 1 || columns > MOST {
+        if !(1..=MOST).contains(&columns) {
             return Err(GridFault::Columns(columns));
         }
         Ok(Grid { rows, columns })
@@ -35,3 +37,15 @@ impl Grid {
         self.columns
     }
 }
+
+impl fmt::Display for GridFault {
+    ghost output = { λ f. Some (shown f) };
+
+    fn fmt<W: fmt::Write>(&self, f: &mut fmt::Formatter<W>) -> fmt::Result {
+        match self {
+            GridFault::Rows(n) | GridFault::Columns(n) => write!(f, "refused with 1 and {n}"),
+        }
+    }
+}
+
+impl Error for GridFault {}

@@ -13,15 +13,12 @@ impl Grid {
     }
 
     // The number of the tile in this row and column, or None where the grid has no such place.
+    #[tactic(auto, using(crate::proofs::Numbering::number_tells_place))]
     pub fn tile(self, row: usize, column: usize) -> Option<usize>
         ensures answer { result ≡ number_told self (row, column) }
         ensures inverse { NumberTellsPlace self }
     {
-        if row < self.rows && column < self.columns {
-            Some(row * self.columns + column)
-        } else {
-            None
-        }
+        (row < self.rows && column < self.columns).then(|| row * self.columns + column)
     }
 
     // The row and the column of this tile, or None where the grid has no such tile.
@@ -29,10 +26,6 @@ impl Grid {
         ensures answer { result ≡ place_told self tile }
         ensures inverse { PlaceTellsNumber self }
     {
-        if tile < self.tile_count() {
-            Some((tile / self.columns, tile % self.columns))
-        } else {
-            None
-        }
+        (tile < self.tile_count()).then_some((tile / self.columns, tile % self.columns))
     }
 }

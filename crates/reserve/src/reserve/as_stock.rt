@@ -1,4 +1,6 @@
 // The reserve as a stock.
+#![tactic(auto, using(crate::proofs::Reserves::count_reserved, crate::proofs::Reserves::capacity_reserved))]
+
 ghost use Rattle.std.specs.Prelude.{◌≡◌, ℕ};
 ghost use Rattle.std.proofs.Common.{ap};
 ghost use Rattle.std.specs.Borrow.{GName};
@@ -13,14 +15,10 @@ use stock::stock::Stock;
 impl<'b, S: Stock> Stock for Reserve<'b, S> {
     ghost meaning = { λ s. reserved s.percent.value (S.Stock.meaning s.below.now) };
 
-    ghost sound = { λ s. reserved_sound s.percent.value (S.Stock.meaning s.below.now) (S.Stock.sound s.below.now) };
-
     // The percentage, the stock that was lent, and what is fixed in it.
     ghost Fixed = { ℕ × GName × S.Stock.Fixed };
 
     ghost fixed = { λ s. (s.percent.value, s.below.ghost_name, S.Stock.fixed s.below.now) };
-
-    ghost settled = { λ s t same. reserved_settled (ap (λ f. f.0) same) (S.Stock.settled s.below.now t.below.now (ap (λ f. f.2) same)) };
 
     fn places(&self) -> usize {
         self.below.places()
@@ -43,4 +41,8 @@ impl<'b, S: Stock> Stock for Reserve<'b, S> {
     fn give_back(&mut self, place: usize, n: u16) -> Result<(), StockFault> {
         self.below.give_back(place, n)
     }
+
+    ghost sound = { λ s. reserved_sound s.percent.value (S.Stock.meaning s.below.now) (S.Stock.sound s.below.now) };
+
+    ghost settled = { λ s t same. reserved_settled (ap (λ f. f.0) same) (S.Stock.settled s.below.now t.below.now (ap (λ f. f.2) same)) };
 }

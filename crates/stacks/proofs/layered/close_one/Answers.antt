@@ -1,6 +1,6 @@
 use Rattle.stacks.specs.Under.{one_closed}
 use Rattle.stacks.proofs.layered.close_one.Goals as goal
 
-pub returns : goal.returns
+pub returns-clause-marked : goal.returns-clause-marked
 unfolding one_closed
-returns g c = record { holds = cc; lender = cc; marked = cc }
+returns-clause-marked g c = cc

@@ -1,6 +1,0 @@
-use Rattle.std.proofs.Common.{rules}
-use Rattle.reserve.proofs.Reserves.{count_reserved, capacity_reserved}
-use Rattle.reserve.proofs.reserve.as_stock.ReserveStock.take.Goals as goal
-
-pub returns : goal.returns
-returns g c = search (rules, count_reserved, capacity_reserved)
