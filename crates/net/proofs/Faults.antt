@@ -61,20 +61,3 @@ tile_marked rs i seen h m = (length-set seen (tile_of rs i) true ∙ m.0, marked
 -- index 0 is nobody's child
 pub no_parent_marked : (rs : List Record) → ParentsMarked rs 1 (replicate 256 false)
 no_parent_marked rs = (length-replicate 256 false, λ t h. unmarked 256 t h)
-
-first_not : (b : Bool) → (ltb 0 0 && b) ≡ false
-first_not b = refl
-
-later_child : (rs : List Record) (k t : ℕ) → 0 < k → is_child rs t k ≡ eqb (parent_of rs k) t
-later_child rs k t h = ap (λ (x : Bool). x && eqb (parent_of rs k) t) (lt-ltb 0 k h)
-
-pub parent_marked : (rs : List Record) (k : ℕ) (parents : List Bool) → 0 < k → parent_of rs k < 256 → ParentsMarked rs k parents → ParentsMarked rs (k + 1) (set parents (parent_of rs k) true)
-parent_marked rs k parents pos h m = (length-set parents (parent_of rs k) true ∙ m.0, marked_more (λ t j. is_child rs t j) k (parent_of rs k) 256 parents m.0 h (λ t. later_child rs k t pos) m.1)
-
--- a parent past the marks is no index
-pub parent_past : (rs : List Record) (k : ℕ) (parents : List Bool) → 0 < k → 256 ≤ parent_of rs k → ParentsMarked rs k parents → ParentsMarked rs (k + 1) parents
-parent_past rs k parents pos h m = (
-  m.0,
-  λ t l. subst (λ (n : ℕ). get_or parents t false ≡ some_below (is_child rs t) n) (sym (add-one k))
-      (m.1 t l ∙ sym (or_same (some_below (is_child rs t) k) (is_child rs t k) (later_child rs k t pos ∙ ne_eqb (parent_of rs k) t (λ e. omega arith)))),
-)
