@@ -1,14 +1,14 @@
 -- What the tests of one record settle, and how the marks of tiles and of parents go on.
-use Rattle.std.proofs.Common.{◌≡◌, ℕ, ◌+◌, ◌<◌, ◌≤◌, Bool, true, false, not, ◌&&◌, ◌||◌, eqb, ltb, List, length, get_or, set, replicate, None, sym, refl, ap, ◌∙◌, subst, ⊎_elim, add-one, arith}
+use Rattle.std.proofs.Common.{◌≡◌, ℕ, ◌+◌, ◌<◌, Bool, true, false, not, ◌||◌, eqb, List, length, get_or, set, replicate, None, sym, refl, ap, ◌∙◌, subst, ⊎_elim, add-one, arith}
 use Rattle.std.proofs.lemmas.Nat.{mul-le}
 use Rattle.std.proofs.lemmas.List.{length-set, length-replicate, get_or-replicate, get_or-set_same, get_or-set_other}
-use Rattle.std.proofs.lemmas.Bool.{eq-eqb, ne_eqb, cases_eq, ltb-true, lt-ltb}
+use Rattle.std.proofs.lemmas.Bool.{eq-eqb, ne_eqb, cases_eq, ltb-true}
 use Rattle.grid.specs.declared.shape.Grid.{Grid}
 use Rattle.grid.specs.Tiles.{tile_count, has_tile}
 use Rattle.net.specs.declared.records.record.Record.{Record}
 use Rattle.net.specs.Lowest.{or_else, unless, some_below}
 use Rattle.net.specs.Marks.{TilesMarked, ParentsMarked}
-use Rattle.net.specs.Routes.{tile_of, parent_of, is_child, parent_fits, beside_parent, stands_earlier, record_fault}
+use Rattle.net.specs.Routes.{tile_of, parent_of, parent_fits, beside_parent, stands_earlier, record_fault}
 use Rattle.net.specs.declared.records.record.RouteFault.TheVariants.{OffGrid, Repeated}
 use Rattle.net.proofs.Firsts.{or_else_none, unless_none}
 

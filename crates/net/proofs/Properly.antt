@@ -5,9 +5,11 @@ use Rattle.std.proofs.lemmas.Bool.Decides.{nat_tests}
 use Rattle.grid.specs.declared.shape.Grid.{Grid}
 use Rattle.grid.specs.Tiles.{has_tile}
 use Rattle.grid.specs.Boundaries.{neighbours}
+use Rattle.net.specs.declared.records.Route.{Route}
 use Rattle.net.specs.declared.records.record.Record.{Record}
 use Rattle.net.specs.declared.records.record.RouteFault.{RouteFault}
 use Rattle.net.specs.declared.records.record.RouteFault.TheVariants.{Count, OffGrid, Parent, Apart, Repeated, Useless}
+use Rattle.net.specs.Checked.{records_of}
 use Rattle.net.specs.Lowest.{or_else, lowest, unless, some_below, nothing_wrong, fault_of}
 use Rattle.net.specs.Proper.{Proper}
 use Rattle.net.specs.Routes.{most_records, tile_of, parent_of, sink_at, is_child, has_child, parent_fits, beside_parent, stands_earlier, record_fault, end_fault, right_count, route_fault, is_route}
@@ -113,3 +115,7 @@ module _ (g : Grid) (rs : List Record) where
   pub exactly : {A : Type 0} (r : Result A RouteFault) → fault_of r ≡ route_fault g rs → Decides (is_ok r) (Proper g rs)
   exactly (Ok a) e = (λ h. proper_if (ap nothing_wrong (sym e)), λ p. refl)
   exactly (Err f) e = (λ h. proper_if (ap nothing_wrong (sym e) ∙ h), λ p. ap nothing_wrong e ∙ route_if p)
+
+-- the records of a route
+pub proper : (r : Route) → Proper r.grid (records_of r)
+proper r = proper_if r.grid (records_of r) r.checked
