@@ -1,7 +1,7 @@
 -- The walk from the end: each step keeps what the table of lengths holds, and at the end it holds what hangs.
 use Rattle.std.proofs.Common.{◌≡◌, ℕ, zero, suc, ◌+◌, ◌-◌, ◌<◌, ◌≤◌, Bool, true, false, cond, ◌&&◌, eqb, ltb, List, map, length, get_or, set, replicate, sym, refl, ap, ◌∙◌, subst, ⊎_elim, add-one, arith}
 use Rattle.std.specs.List.{range_with_len}
-use Rattle.std.proofs.lemmas.List.FromFn.{fill_by_all}
+use Rattle.std.proofs.lemmas.List.FromFn.{fill_by_all, get_or-map-range_with_len}
 use Rattle.std.proofs.lemmas.List.{length-set, length-replicate, get_or-replicate, get_or-set_same, get_or-set_other}
 use Rattle.std.proofs.lemmas.Bool.{and_parts, lt-ltb, eqb-true, eq-eqb, cases_eq, cases_lt, cases_Bool}
 use Rattle.grid.specs.declared.shape.Grid.{Grid}
@@ -187,3 +187,8 @@ module _ (r : Route) {ms lengths : List ℕ} {k : ℕ} (later : 0 < k) (within :
     walked_more =
         subst (λ (xs : List ℕ). Walked (records_of r) ms k xs) (sym (λ i. set lengths (parent i) (get_or lengths (parent i) 0 + passed i)))
         (step r.grid (records_of r) (proper r) ms k lengths later within w)
+
+-- the table tells what hangs at index i
+pub hanging_told : (r : Route) (ms lengths : List ℕ) (i : ℕ) → i < length (records_of r) → lengths ≡ map (hanging (records_of r) ms) (range_with_len 0 256) → get_or lengths i 0 ≡ hanging (records_of r) ms i
+hanging_told r ms lengths i h e =
+    ap (λ (xs : List ℕ). get_or xs i 0) e ∙ get_or-map-range_with_len (hanging (records_of r) ms) 0 256 i i 0 (omega (arith, (proper r).not_many)) (omega arith)
