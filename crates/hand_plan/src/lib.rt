@@ -3,19 +3,17 @@
 // of a plan.
 #![tactic(auto)]
 
-ghost use Rattle.std.specs.Prelude.{◌≡◌, ◌<◌, length, is_ok, Decides, slice_index};
+ghost use Rattle.std.specs.Prelude.{◌≡◌, length, is_ok, Decides};
 ghost use Rattle.refusal.specs.Told.{told_by};
 ghost use Rattle.net.specs.Checked.{records_of};
-ghost use Rattle.net.specs.Lowest.{lowest, fault_of, or_else};
+ghost use Rattle.net.specs.Lowest.{lowest, fault_of};
 ghost use Rattle.length_rule.specs.Gates.{listed, there};
-ghost use Rattle.length_rule.specs.Legal.{Legal, spare_at};
-ghost use Rattle.length_rule.specs.Lengths.{hanging};
+ghost use Rattle.length_rule.specs.Legal.{Legal};
 ghost use Rattle.length_rule.specs.Refusals.{mark_fault, over_limit, gate_fault, site_fault, plan_fault, plan_refusal, told};
 
 use length_rule::{Gate, Gates, PlanFault};
 use net::limit::Limit;
 use net::records::Route;
-use net::records::record::Record;
 use plan::gates::gates_of;
 use plan::lengths;
 use plan::marks::mark_at;
@@ -26,136 +24,62 @@ const MOST: u8 = 3;
 
 const NONE: u8 = 0;
 
-fn mark_fault(marks: &[u8], index: usize) -> Option<PlanFault>
-    ensures { result ≡ mark_fault marks.now index }
+// Refuses the lowest index with a mark that it may not have.
+fn check_marks(marks: &[u8]) -> Result<(), PlanFault>
+    ensures { fault_of result ≡ lowest (mark_fault marks.now) (length marks.now) }
 {
-    let most = if index == 0 { NONE } else { MOST };
-    if mark_at(marks, index) <= most {
-        None
-    } else {
-        Some(PlanFault::Mark(index))
+    for (index, mark) in marks.iter().enumerate() {
+        let most = if index == 0 { NONE } else { MOST };
+        if *mark > most {
+            return Err(PlanFault::Mark(index));
+        }
     }
+    Ok(())
 }
 
-fn over_limit(limit: Limit, index: usize, gate: Option<Gate>) -> Option<PlanFault>
-    ensures { result ≡ over_limit limit.value index (there gate) }
+// Refuses a gate of this index that drives more than the limit.
+fn check_gate(limit: Limit, index: usize, gate: Option<Gate>) -> Result<(), PlanFault>
+    ensures { fault_of result ≡ over_limit limit.value index (there gate) }
 {
     match gate {
-        Some(gate) => {
-            if gate.drives <= limit.figure() {
-                None
-            } else {
-                Some(PlanFault::Drives(index, gate.drives))
-            }
-        }
-        None => None,
+        Some(gate) if gate.drives > limit.figure() => Err(PlanFault::Drives(index, gate.drives)),
+        _ => Ok(()),
     }
 }
 
-fn first_of(first: Option<PlanFault>, second: Option<PlanFault>) -> Option<PlanFault>
-    ensures { result ≡ or_else first second }
+// Refuses the first of the gates of this index that drives more than the limit.
+fn check_gates_of(limit: Limit, index: usize, gates: Gates) -> Result<(), PlanFault>
+    ensures { fault_of result ≡ over_limit limit.value index (listed gates) }
 {
-    match first {
-        Some(fault) => Some(fault),
-        None => second,
-    }
+    check_gate(limit, index, gates.driver)?;
+    check_gate(limit, index, gates.head)?;
+    check_gate(limit, index, gates.trunk)
 }
 
-fn gates_fault(limit: Limit, index: usize, gates: Gates) -> Option<PlanFault>
-    ensures { result ≡ over_limit limit.value index (listed gates) }
+// Refuses the lowest index with a gate that drives more than the limit.
+fn check_gates(limit: Limit, route: &Route, marks: &[u8]) -> Result<(), PlanFault>
+    ensures { fault_of result ≡ lowest (gate_fault limit.value (records_of route.now) marks.now) (length (records_of route.now)) }
 {
-    first_of(
-        over_limit(limit, index, gates.driver),
-        first_of(
-            over_limit(limit, index, gates.head),
-            over_limit(limit, index, gates.trunk),
-        ),
-    )
-}
-
-// The gate of this index that drives too much, where `lengths` tells what hangs at it.
-fn gate_fault(
-    limit: Limit,
-    records: &[Record],
-    marks: &[u8],
-    lengths: &[u16],
-    index: usize,
-) -> Option<PlanFault>
-    requires within { index < length records.now }
-    requires long { index < length lengths.now }
-    requires hung { slice_index lengths.now index ≡ hanging records.now marks.now index }
-    ensures { result ≡ gate_fault limit.value records.now marks.now index }
-{
-    let gates = gates_of(
-        mark_at(marks, index),
-        records[index].parent as usize,
-        index,
-        lengths[index],
-    );
-    gates_fault(limit, index, gates)
-}
-
-fn first_mark_fault(count: usize, marks: &[u8]) -> Option<PlanFault>
-    ensures { result ≡ lowest (mark_fault marks.now) count }
-{
-    for index in 0..count {
-        let fault = mark_fault(marks, index);
-        if fault.is_some() {
-            return fault;
-        }
-    }
-    None
-}
-
-fn first_gate_fault(limit: Limit, route: &Route, marks: &[u8]) -> Option<PlanFault>
-    ensures { result ≡ lowest (gate_fault limit.value (records_of route.now) marks.now) (length (records_of route.now)) }
-{
-    let records = route.records();
     let lengths = lengths::hanging(route, marks);
-    for index in 0..records.len() {
-        let fault = gate_fault(limit, records, marks, &lengths, index);
-        if fault.is_some() {
-            return fault;
-        }
+    for (index, record) in route.records().iter().enumerate() {
+        let mark = mark_at(marks, index);
+        let parent = usize::from(record.parent);
+        check_gates_of(limit, index, gates_of(mark, parent, index, lengths[index]))?;
     }
-    None
+    Ok(())
 }
 
-fn spare_at(spare: &[u16], index: usize) -> u16
-    ensures { result ≡ spare_at spare.now index }
+// Refuses the lowest index whose tile needs more than its spare sites.
+fn check_sites(route: &Route, spare: &[u16], marks: &[u8]) -> Result<(), PlanFault>
+    ensures { fault_of result ≡ lowest (site_fault (records_of route.now) spare.now marks.now) (length (records_of route.now)) }
 {
-    if index < spare.len() { spare[index] } else { 0 }
-}
-
-fn first_site_fault(route: &Route, spare: &[u16], marks: &[u8]) -> Option<PlanFault>
-    ensures { result ≡ lowest (site_fault (records_of route.now) spare.now marks.now) (length (records_of route.now)) }
-{
-    let count = route.records().len();
     let needed = needs(route, marks);
-    for index in 0..count {
-        if needed[index] > spare_at(spare, index) {
-            return Some(PlanFault::Sites(index));
+    for (index, sites) in needed[..route.records().len()].iter().enumerate() {
+        if *sites > spare.get(index).copied().unwrap_or(0) {
+            return Err(PlanFault::Sites(index));
         }
     }
-    None
-}
-
-fn plan_fault(limit: Limit, route: &Route, spare: &[u16], marks: &[u8]) -> Option<PlanFault>
-    ensures { result ≡ plan_fault limit.value (records_of route.now) spare.now marks.now }
-{
-    let count = route.records().len();
-    if marks.len() != count {
-        return Some(PlanFault::Marks(count));
-    }
-    let fault = first_mark_fault(count, marks);
-    if fault.is_some() {
-        return fault;
-    }
-    let fault = first_gate_fault(limit, route, marks);
-    if fault.is_some() {
-        return fault;
-    }
-    first_site_fault(route, spare, marks)
+    Ok(())
 }
 
 // Accepts a plan exactly where it is legal under this limit and with these spare sites along the route. Refused with 19
@@ -167,8 +91,11 @@ pub fn check_plan(limit: Limit, route: &Route, spare: &[u16], marks: &[u8]) -> R
     ensures told { told_by told result ≡ plan_refusal limit.value (records_of route.now) spare.now marks.now }
     ensures exactly { Decides (is_ok result) (Legal limit.value (records_of route.now) spare.now marks.now) }
 {
-    match plan_fault(limit, route, spare, marks) {
-        Some(fault) => Err(fault),
-        None => Ok(()),
+    let count = route.records().len();
+    if marks.len() != count {
+        return Err(PlanFault::Marks(count));
     }
+    check_marks(marks)?;
+    check_gates(limit, route, marks)?;
+    check_sites(route, spare, marks)
 }

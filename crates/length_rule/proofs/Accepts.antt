@@ -1,10 +1,10 @@
 -- The refusals of a plan leave exactly the legal plans.
-use Rattle.std.proofs.Common.{◌≡◌, ℕ, ◌<◌, ◌≤◌, Bool, cond, eqb, leb, List, [], ◌∷◌, length, None, Decides, Option, sym, refl, ap, ◌∙◌, subst, ⊎_elim, arith}
+use Rattle.std.proofs.Common.{◌≡◌, ℕ, ◌<◌, ◌≤◌, Bool, cond, eqb, leb, List, [], ◌∷◌, length, is_ok, None, Some, Ok, Err, Decides, Option, Result, sym, refl, ap, ◌∙◌, subst, ⊎_elim, arith}
 use Rattle.std.specs.List.{AllByRecursion}
 use Rattle.std.proofs.lemmas.Bool.{leb-true, le-leb, eqb-true, eq-eqb, ne_eqb, cases_eq}
 use Rattle.std.proofs.lemmas.Bool.Decides.{nat_tests}
 use Rattle.net.specs.declared.records.record.Record.{Record}
-use Rattle.net.specs.Lowest.{or_else, lowest, unless, nothing_wrong}
+use Rattle.net.specs.Lowest.{or_else, lowest, unless, nothing_wrong, fault_of}
 use Rattle.net.proofs.Firsts.{or_else_none, unless_none, unless_clear, nothing_none, lowest_none, lowest_clear}
 use Rattle.length_rule.specs.declared.PlanFault.{PlanFault}
 use Rattle.length_rule.specs.declared.PlanFault.TheVariants.{Marks, Mark, Drives, Sites}
@@ -65,6 +65,7 @@ module _ (limit : ℕ) (rs : List Record) (spare ms : List ℕ) (some : 1 ≤ le
       (lowest_clear (site_fault rs spare ms) (length rs)
       (λ i h. unless_clear (leb (need rs ms i) (spare_at spare i)) (Sites i) (le-leb (need rs ms i) (spare_at spare i) (l.fits i h))))))
 
-  -- what the check found tells whether the plan is legal
-  pub exactly : (o : Option PlanFault) → o ≡ plan_fault limit rs spare ms → Decides (nothing_wrong o) (Legal limit rs spare ms)
-  exactly o e = (λ h. legal_if (sym e ∙ nothing_none o h), λ l. ap nothing_wrong (e ∙ none_if l))
+  -- what the check answers tells whether the plan is legal
+  pub exactly : {A : Type 0} (r : Result A PlanFault) → fault_of r ≡ plan_fault limit rs spare ms → Decides (is_ok r) (Legal limit rs spare ms)
+  exactly (Ok a) e = (λ h. legal_if (sym e), λ l. refl)
+  exactly (Err f) e = (λ h. legal_if (sym e ∙ nothing_none (Some f) h), λ l. ap nothing_wrong (e ∙ none_if l))

@@ -1,5 +1,5 @@
 -- The lowest index at which something is wrong: how a scan from below comes to it, and what it means that there is none.
-use Rattle.std.proofs.Common.{◌≡◌, ℕ, zero, suc, ◌+◌, ◌<◌, Bool, true, false, cond, ◌||◌, is_some, Some, None, Option, sym, refl, ap, ◌∙◌, subst, ⊎_elim, add-one, arith}
+use Rattle.std.proofs.Common.{◌≡◌, ℕ, zero, suc, ◌+◌, ◌<◌, Bool, true, false, cond, ◌||◌, Some, None, Option, sym, refl, ap, ◌∙◌, subst, ⊎_elim, add-one, arith}
 use Rattle.std.proofs.lemmas.Bool.{cases_eq}
 use Rattle.net.specs.Lowest.{or_else, lowest, unless, some_below, nothing_wrong}
 
@@ -48,15 +48,6 @@ module _ {F : Type 0} (f : ℕ → Option F) where
     where
       earlier : (i ≡ n → ⊥) → i < n
       earlier d = grind (arith, d)
-
-  -- the same, of an answer that was tested
-  pub lowest_some : (i n : ℕ) (o : Option F) → lowest f i ≡ None → o ≡ f i → is_some o ≡ true → i < n → o ≡ lowest f n
-  lowest_some i n (Some x) e h s l = sym (lowest_found i n x e (sym h) l)
-  lowest_some i n None e h s l = let z : ◌≡◌ {A = ℕ} 0 1 = cc in absurd (omega arith)
-
-pub none_since : {F : Type 0} (o : Option F) → is_some o ≡ false → o ≡ None
-none_since (Some x) e = let z : ◌≡◌ {A = ℕ} 0 1 = cc in absurd (omega arith)
-none_since None e = refl
 
 module _ (q : ℕ → Bool) where
   pub some_below_none : (n : ℕ) → some_below q n ≡ false → (i : ℕ) → i < n → q i ≡ false

@@ -1,14 +1,16 @@
 -- The check refuses nothing exactly where the records are a route.
-use Rattle.std.proofs.Common.{◌≡◌, ℕ, zero, suc, ◌<◌, ◌≤◌, Bool, true, false, not, ◌||◌, eqb, leb, List, length, None, Decides, Option, sym, refl, ap, ◌∙◌, subst, ⊎_elim, arith}
+use Rattle.std.proofs.Common.{◌≡◌, ℕ, zero, suc, ◌<◌, ◌≤◌, Bool, true, false, not, ◌||◌, eqb, leb, List, length, is_ok, None, Ok, Err, Decides, Option, Result, sym, refl, ap, ◌∙◌, subst, ⊎_elim, arith}
 use Rattle.std.proofs.lemmas.Bool.{and_parts, and_from, or_cases, or_left, or_right, leb-true, le-leb, eqb-true, eqb-false, eq-eqb, ne_eqb, not-true, not_from_false, cases_eq}
 use Rattle.std.proofs.lemmas.Bool.Decides.{nat_tests}
 use Rattle.grid.specs.declared.shape.Grid.{Grid}
 use Rattle.grid.specs.Tiles.{has_tile}
 use Rattle.grid.specs.Boundaries.{neighbours}
+use Rattle.net.specs.declared.records.Route.{Route}
 use Rattle.net.specs.declared.records.record.Record.{Record}
 use Rattle.net.specs.declared.records.record.RouteFault.{RouteFault}
 use Rattle.net.specs.declared.records.record.RouteFault.TheVariants.{Count, OffGrid, Parent, Apart, Repeated, Useless}
-use Rattle.net.specs.Lowest.{or_else, lowest, unless, some_below, nothing_wrong}
+use Rattle.net.specs.Checked.{records_of}
+use Rattle.net.specs.Lowest.{or_else, lowest, unless, some_below, nothing_wrong, fault_of}
 use Rattle.net.specs.Proper.{Proper}
 use Rattle.net.specs.Routes.{most_records, tile_of, parent_of, sink_at, is_child, has_child, parent_fits, beside_parent, stands_earlier, record_fault, end_fault, right_count, route_fault, is_route}
 use Rattle.net.proofs.Firsts.{or_else_none, unless_none, unless_clear, nothing_none, lowest_none, lowest_clear, some_below_none, some_below_found}
@@ -109,6 +111,11 @@ module _ (g : Grid) (rs : List Record) where
       ended i h true e = refl
       ended i h false e = let k = p.ends i h e in some_found (is_child rs i) (length rs) k.0 k.1 k.2
 
-  -- what the check found tells whether the records are a route
-  pub exactly : (o : Option RouteFault) → o ≡ route_fault g rs → Decides (nothing_wrong o) (Proper g rs)
-  exactly o e = (λ h. proper_if (sym (ap nothing_wrong e) ∙ h), λ p. ap nothing_wrong e ∙ route_if p)
+  -- what the check answers tells whether the records are a route
+  pub exactly : {A : Type 0} (r : Result A RouteFault) → fault_of r ≡ route_fault g rs → Decides (is_ok r) (Proper g rs)
+  exactly (Ok a) e = (λ h. proper_if (ap nothing_wrong (sym e)), λ p. refl)
+  exactly (Err f) e = (λ h. proper_if (ap nothing_wrong (sym e) ∙ h), λ p. ap nothing_wrong e ∙ route_if p)
+
+-- the records of a route
+pub proper : (r : Route) → Proper r.grid (records_of r)
+proper r = proper_if r.grid (records_of r) r.checked

@@ -1,5 +1,6 @@
 -- The count of buffers: each mark adds its own, and at the end the table holds what the tiles need.
 use Rattle.std.proofs.Common.{◌≡◌, ℕ, zero, suc, ◌+◌, ◌*◌, ◌<◌, ◌≤◌, Bool, true, false, cond, eqb, List, map, length, get_or, set, replicate, sym, refl, ap, ◌∙◌, subst, ⊎_elim, add-one, arith}
+use Rattle.std.specs.Int.{from_bool}
 use Rattle.std.specs.List.{range_with_len}
 use Rattle.std.proofs.lemmas.List.FromFn.{fill_by_all, get_or-map-range_with_len}
 use Rattle.std.proofs.lemmas.List.{length-set, length-replicate, get_or-replicate, get_or-set_same, get_or-set_other}
@@ -9,12 +10,12 @@ use Rattle.grid.specs.declared.shape.Grid.{Grid}
 use Rattle.net.specs.declared.records.Route.{Route}
 use Rattle.net.specs.Checked.{records_of}
 use Rattle.net.specs.Proper.{Proper}
-use Rattle.net.proofs.Properly.{proper_if}
+use Rattle.net.proofs.Properly.{proper}
 use Rattle.net.specs.Routes.{parent_of}
 use Rattle.length_rule.specs.Children.{indices, sum_over}
 use Rattle.length_rule.specs.Gates.{buffers_at, standing_at, need}
 use Rattle.length_rule.specs.Lengths.{hanging, entering}
-use Rattle.length_rule.specs.Marks.{mark_at, head_at, trunk_at}
+use Rattle.length_rule.specs.Marks.{has_head, has_trunk, mark_at, head_at, trunk_at}
 use Rattle.length_rule.proofs.Local.{standing_parts}
 use Rattle.plan.specs.Tally.{Tallied}
 
@@ -75,8 +76,64 @@ module _ (rs : List Record) (ms : List ℕ) where
   pub tallied_all : (needs : List ℕ) → Tallied rs ms (length rs) needs → needs ≡ map (need rs ms) (range_with_len 0 256)
   tallied_all needs t = fill_by_all (need rs ms) needs 256 0 t.size t.each
 
+pub one_for : (b : Bool) → from_bool b ≡ cond b 1 0
+one_for true = refl
+one_for false = refl
+
+-- The next mark counted: the record at k names the parent p, and h and t are 1 where the mark sets a head and a trunk buffer.
+module _ (r : Route) {rs : List Record} {ms needs : List ℕ} {k p : ℕ} (same : rs ≡ records_of r) (here : k < length rs) (w : Tallied (records_of r) ms k needs) (names : p ≡ parent_of rs k) where
+  within : k < length (records_of r)
+  within = omega (arith, here, ap length same)
+
+  small : k < 256
+  small = omega (arith, within, (proper r).not_many)
+
+  parent : p ≡ parent_of (records_of r) k
+  parent = names ∙ ap (λ (xs : List Record). parent_of xs k) same
+
+  at_most_one : (b : Bool) → cond b 1 0 ≤ 1
+  at_most_one true = omega arith
+  at_most_one false = omega arith
+
+  pub in_table : p < 256
+  in_table = omega (arith, parent, parent_in r.grid (records_of r) (proper r) k within)
+
+  module _ {m h : ℕ} {a : Bool} (mark : m ≡ mark_at ms k) (head : a ≡ has_head m) (head_one : h ≡ from_bool a) where
+    heads : h ≡ cond (head_at ms k) 1 0
+    heads = head_one ∙ (one_for a ∙ ap (λ (b : Bool). cond b 1 0) (head ∙ ap has_head mark))
+
+    pub first_small : get_or needs p 0 + h ≤ 513
+    first_small = omega (arith, tallied_small (records_of r) ms k p needs (omega (arith, small)) in_table w, heads, at_most_one (head_at ms k))
+
+    once : set needs p (get_or needs p 0 + h) ≡ raised needs (parent_of (records_of r) k) (head_at ms k)
+    once = λ i. set needs (parent i) (get_or needs (parent i) 0 + heads i)
+
+    module _ {t : ℕ} {b : Bool} (trunk : b ≡ has_trunk m) (trunk_one : t ≡ from_bool b) where
+      trunks : t ≡ cond (trunk_at ms k) 1 0
+      trunks = trunk_one ∙ (one_for b ∙ ap (λ (x : Bool). cond x 1 0) (trunk ∙ ap has_trunk mark))
+
+      pub second_small : get_or (set needs p (get_or needs p 0 + h)) k 0 + t ≤ 514
+      second_small =
+          omega (
+            arith,
+            ap (λ (xs : List ℕ). get_or xs k 0) once,
+            raised_at needs (parent_of (records_of r) k) k (head_at ms k) (omega (arith, w.size, parent, in_table)),
+            tallied_small (records_of r) ms k k needs (omega (arith, small)) small w,
+            one (head_at ms k) (eqb (parent_of (records_of r) k) k),
+            trunks,
+            at_most_one (trunk_at ms k),
+          )
+        where
+          one : (x y : Bool) → cond x (cond y 1 0) 0 ≤ 1
+          one true y = at_most_one y
+          one false y = omega arith
+
+      pub counted_more : Tallied (records_of r) ms (k + 1) (set (set needs p (get_or needs p 0 + h)) k (get_or (set needs p (get_or needs p 0 + h)) k 0 + t))
+      counted_more =
+          subst (λ (xs : List ℕ). Tallied (records_of r) ms (k + 1) xs) (sym (λ i. set (once i) k (get_or (once i) k 0 + trunks i)))
+          (tallied_more (records_of r) ms k needs small (omega (arith, parent, in_table)) w)
+
 -- the table tells what the tile of index i needs
 pub need_told : (r : Route) (ms needed : List ℕ) (i : ℕ) → i < length (records_of r) → needed ≡ map (need (records_of r) ms) (range_with_len 0 256) → get_or needed i 0 ≡ need (records_of r) ms i
 need_told r ms needed i h e =
-    let proper = proper_if r.grid (records_of r) r.checked in
-    ap (λ (xs : List ℕ). get_or xs i 0) e ∙ get_or-map-range_with_len (need (records_of r) ms) 0 256 i i 0 (omega (arith, proper.not_many)) (omega arith)
+    ap (λ (xs : List ℕ). get_or xs i 0) e ∙ get_or-map-range_with_len (need (records_of r) ms) 0 256 i i 0 (omega (arith, (proper r).not_many)) (omega arith)

@@ -1,7 +1,7 @@
 -- The walk from the end: each step keeps what the table of lengths holds, and at the end it holds what hangs.
 use Rattle.std.proofs.Common.{◌≡◌, ℕ, zero, suc, ◌+◌, ◌-◌, ◌<◌, ◌≤◌, Bool, true, false, cond, ◌&&◌, eqb, ltb, List, map, length, get_or, set, replicate, sym, refl, ap, ◌∙◌, subst, ⊎_elim, add-one, arith}
 use Rattle.std.specs.List.{range_with_len}
-use Rattle.std.proofs.lemmas.List.FromFn.{fill_by_all}
+use Rattle.std.proofs.lemmas.List.FromFn.{fill_by_all, get_or-map-range_with_len}
 use Rattle.std.proofs.lemmas.List.{length-set, length-replicate, get_or-replicate, get_or-set_same, get_or-set_other}
 use Rattle.std.proofs.lemmas.Bool.{and_parts, lt-ltb, eqb-true, eq-eqb, cases_eq, cases_lt, cases_Bool}
 use Rattle.grid.specs.declared.shape.Grid.{Grid}
@@ -9,17 +9,14 @@ use Rattle.net.specs.declared.records.record.Record.{Record}
 use Rattle.net.specs.declared.records.Route.{Route}
 use Rattle.net.specs.Checked.{records_of}
 use Rattle.net.specs.Proper.{Proper}
-use Rattle.net.specs.Routes.{parent_of, is_child, is_route}
+use Rattle.net.specs.Routes.{parent_of, is_child}
+use Rattle.net.proofs.Properly.{proper}
 use Rattle.length_rule.specs.Children.{indices, sum_over}
 use Rattle.length_rule.specs.Lengths.{hanging_in, hanging}
 use Rattle.length_rule.specs.Marks.{head_at, trunk_at}
 use Rattle.length_rule.proofs.Sums.{sum_kept, sum_none, sum_from, from_first, from_later}
 use Rattle.length_rule.proofs.Unique.{child_later, the_rule}
 use Rattle.plan.specs.Walk.{adds, Walked}
-
--- the grid and the records of a checked route
-pub routed : (r : Route) (g : Grid) (rs : List Record) → g ≡ r.grid → rs ≡ records_of r → is_route g rs ≡ true
-routed r g rs e f = (λ i. is_route (e i) (f i)) ∙ r.checked
 
 -- a term is no more than the sum
 pub term_at_most : (f : ℕ → ℕ) (n p : ℕ) → p < n → f p ≤ sum_over (indices n) f
@@ -170,3 +167,28 @@ module _ (g : Grid) (rs : List Record) (proper : Proper g rs) (ms : List ℕ) wh
           (λ (l : j < length rs). hung_all 1 j lengths w proper.some l (λ m b e. omega (arith, child_later rs proper.earlier j m (omega (arith, proper.some)) e)))
           (λ (l : length rs ≤ j). w.hung j h ∙ (none_past j l ∙ sym (past (length rs) j l)))
           (cases_lt j (length rs))
+
+-- One step of the walk: p is the parent of k, and u what k passes up.
+module _ (r : Route) {ms lengths : List ℕ} {k : ℕ} (later : 0 < k) (within : k < length (records_of r)) (w : Walked (records_of r) ms (k + 1) lengths) where
+  both_small : get_or lengths (parent_of (records_of r) k) 0 + get_or lengths k 0 ≤ 254
+  both_small = small r.grid (records_of r) (proper r) ms k lengths later within w
+
+  pub passes_small : get_or lengths k 0 ≤ 254
+  passes_small = omega (arith, both_small)
+
+  pub parent_below : {p : ℕ} → p ≡ parent_of (records_of r) k → p < 256
+  parent_below parent = omega (arith, parent, (proper r).earlier k later within, (proper r).not_many)
+
+  module _ {p u : ℕ} (parent : p ≡ parent_of (records_of r) k) (passed : u ≡ cond (head_at ms k) 0 (1 + cond (trunk_at ms k) 0 (get_or lengths k 0))) where
+    pub sum_small : get_or lengths p 0 + u ≤ 255
+    sum_small = omega (arith, ap (λ (j : ℕ). get_or lengths j 0) parent, passed, up_small r.grid (records_of r) (proper r) ms k lengths later within w, both_small)
+
+    pub walked_more : Walked (records_of r) ms k (set lengths p (get_or lengths p 0 + u))
+    walked_more =
+        subst (λ (xs : List ℕ). Walked (records_of r) ms k xs) (sym (λ i. set lengths (parent i) (get_or lengths (parent i) 0 + passed i)))
+        (step r.grid (records_of r) (proper r) ms k lengths later within w)
+
+-- the table tells what hangs at index i
+pub hanging_told : (r : Route) (ms lengths : List ℕ) (i : ℕ) → i < length (records_of r) → lengths ≡ map (hanging (records_of r) ms) (range_with_len 0 256) → get_or lengths i 0 ≡ hanging (records_of r) ms i
+hanging_told r ms lengths i h e =
+    ap (λ (xs : List ℕ). get_or xs i 0) e ∙ get_or-map-range_with_len (hanging (records_of r) ms) 0 256 i i 0 (omega (arith, (proper r).not_many)) (omega arith)

@@ -1,16 +1,13 @@
 // What hangs at each index of a route, walked from the end once.
-ghost use Rattle.std.specs.Prelude.{◌≡◌, ◌+◌, ◌<◌, ◌≤◌, true, map, length, if◌then◌else◌};
+ghost use Rattle.std.specs.Prelude.{◌≡◌, ◌+◌, ◌<◌, ◌≤◌, map, length, if◌then◌else◌};
 ghost use Rattle.std.specs.List.{range_with_len};
 ghost use Rattle.net.specs.Checked.{records_of};
-ghost use Rattle.net.specs.Routes.{is_route};
 ghost use Rattle.length_rule.specs.Lengths.{hanging, LengthsAreTheRule};
 ghost use Rattle.length_rule.specs.Marks.{has_head, has_trunk};
 ghost use Rattle.plan.specs.Walk.{Walked};
 
 use crate::marks::{has_head, has_trunk, mark_at};
-use grid::shape::Grid;
 use net::records::Route;
-use net::records::record::Record;
 
 // What an index with this mark passes up to its parent, where so much hangs at it: nothing past a head buffer, else 1
 // and what enters the index.
@@ -28,15 +25,14 @@ fn passed(mark: u8, hangs: u16) -> u16
 }
 
 // One step of the walk: the length of the parent of this index grows by what the index passes up.
-fn pass_up(grid: Grid, records: &[Record], marks: &[u8], index: usize, lengths: &mut [u16])
-    requires routed { is_route grid records.now ≡ true }
+fn pass_up(route: &Route, marks: &[u8], index: usize, lengths: &mut [u16])
     requires later { 0 < index }
-    requires within { index < length records.now }
-    requires walked { Walked records.now marks.now (index + 1) lengths.old }
-    ensures { Walked records.now marks.now index lengths.new }
+    requires within { index < length (records_of route.now) }
+    requires walked { Walked (records_of route.now) marks.now (index + 1) lengths.old }
+    ensures { Walked (records_of route.now) marks.now index lengths.new }
 {
     let passes = passed(mark_at(marks, index), lengths[index]);
-    let parent = records[index].parent as usize;
+    let parent = usize::from(route.records()[index].parent);
     lengths[parent] += passes;
 }
 
@@ -45,10 +41,10 @@ pub fn hanging(route: &Route, marks: &[u8]) -> [u16; 256]
     ensures answer { result ≡ map (hanging (records_of route.now) marks.now) (range_with_len 0 256) }
     ensures rule { LengthsAreTheRule (records_of route.now) marks.now }
 {
-    let records = route.records();
     let mut lengths = [0; 256];
-    for index in (1..records.len()).rev() {
-        pass_up(route.grid(), records, marks, index, &mut lengths);
+    // An index counted down: the walk goes from the end, and writes at the parent's index.
+    for index in (1..route.records().len()).rev() {
+        pass_up(route, marks, index, &mut lengths);
     }
     lengths
 }

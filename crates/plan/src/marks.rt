@@ -6,17 +6,17 @@ ghost use Rattle.length_rule.specs.Marks.{mark_at, has_head, has_trunk};
 pub fn mark_at(marks: &[u8], index: usize) -> u8
     ensures { result ≡ mark_at marks.now index }
 {
-    if index < marks.len() { marks[index] } else { 0 }
+    marks.get(index).copied().unwrap_or(0)
 }
 
 pub(crate) fn has_head(mark: u8) -> bool
     ensures { result ≡ has_head mark }
 {
-    mark == 1 || mark == 3
+    matches!(mark, 1 | 3)
 }
 
 pub(crate) fn has_trunk(mark: u8) -> bool
     ensures { result ≡ has_trunk mark }
 {
-    mark == 2 || mark == 3
+    matches!(mark, 2 | 3)
 }

@@ -5,7 +5,7 @@
 
 ghost use Rattle.std.specs.Prelude.{◌≡◌};
 ghost use Rattle.net.specs.Checked.{records_of};
-ghost use Rattle.length_rule.specs.Costs.{price_at, kth_price, tile_cost, plan_cost};
+ghost use Rattle.length_rule.specs.Costs.{kth_price, tile_cost, plan_cost};
 
 use cost::Cost;
 use net::records::Route;
@@ -15,10 +15,7 @@ use plan::needs::needs;
 pub fn kth_price<P: Cost>(price: Option<P>, k: usize) -> P
     ensures { result ≡ kth_price P.Cost.nothing P.Cost.plus price k }
 {
-    match price {
-        Some(price) => price,
-        None => P::nothing(),
-    }
+    price.unwrap_or(P::nothing())
 }
 
 // What so many sites cost in a tile of this price.
@@ -32,25 +29,15 @@ pub fn tile_cost<P: Cost>(price: Option<P>, sites: usize) -> P
     sum
 }
 
-fn price_at<P: Cost>(prices: &[Option<P>], index: usize) -> Option<P>
-    ensures { result ≡ price_at prices.now index }
-{
-    if index < prices.len() {
-        prices[index]
-    } else {
-        None
-    }
-}
-
 // What a plan costs, with these prices along the route.
 pub fn plan_cost<P: Cost>(route: &Route, prices: &[Option<P>], marks: &[u8]) -> P
     ensures { result ≡ plan_cost P.Cost.nothing P.Cost.plus (records_of route.now) prices.now marks.now }
 {
-    let count = route.records().len();
     let needed = needs(route, marks);
     let mut sum = P::nothing();
-    for index in 0..count {
-        sum = tile_cost(price_at(prices, index), needed[index] as usize).plus(sum);
+    for (index, sites) in needed[..route.records().len()].iter().enumerate() {
+        let price = prices.get(index).copied().flatten();
+        sum = tile_cost(price, usize::from(*sites)).plus(sum);
     }
     sum
 }

@@ -8,7 +8,7 @@ use Rattle.grid.proofs.Pairs.{tells_pair, counted}
 use Rattle.net.specs.declared.records.record.Record.{Record}
 use Rattle.net.specs.Proper.{Proper}
 use Rattle.net.specs.Routes.{tile_of, parent_of}
-use Rattle.route_facts.specs.Facts.{crossing, CrossesEach, CrossingsApart, LeadsBack, at_driver, through, LeadsBackEach}
+use Rattle.route_facts.specs.Facts.{crossing, CrossesEach, CrossingsApart, parent_told, LeadsBack, at_driver, through, LeadsBackEach}
 
 module _ (g : Grid) (rs : List Record) (p : Proper g rs) where
   -- a tile tells its index
@@ -18,6 +18,21 @@ module _ (g : Grid) (rs : List Record) (p : Proper g rs) where
 
   parent_in : (i : ℕ) → 0 < i → i < length rs → parent_of rs i < length rs
   parent_in i pos h = omega (arith, p.earlier i pos h)
+
+  -- the parent that is told is an index of the route
+  pub told_in : (i q : ℕ) → parent_told rs i ≡ Some q → q < length rs
+  told_in i q e =
+      ⊎_elim
+      (λ (t : (ltb 0 i && ltb i (length rs)) ≡ true).
+      let both = and_parts (ltb 0 i) (ltb i (length rs)) t in
+      let told : parent_told rs i ≡ Some (parent_of rs i) = cond-true (ltb 0 i && ltb i (length rs)) (Some (parent_of rs i)) None t in
+      let same : parent_of rs i ≡ q = cc in
+      omega (arith, parent_in i (ltb-true 0 i both.0) (ltb-true i (length rs) both.1)))
+      (λ (t : (ltb 0 i && ltb i (length rs)) ≡ false).
+      let none : parent_told rs i ≡ None = cond-false (ltb 0 i && ltb i (length rs)) (Some (parent_of rs i)) None t in
+      let z : ◌≡◌ {A = ℕ} 0 1 = cc in
+      absurd (omega arith))
+      (cases_Bool (ltb 0 i && ltb i (length rs)))
 
   pub crosses_each : CrossesEach g rs
   crosses_each i pos h =

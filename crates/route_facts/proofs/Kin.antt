@@ -1,16 +1,23 @@
 -- An index has at most four children, and at most three past the driver: each stands in another neighbour of its tile.
-use Rattle.std.proofs.Common.{◌≡◌, ℕ, zero, suc, ◌+◌, ◌-◌, ◌<◌, ◌≤◌, Bool, true, false, cond, ◌&&◌, eqb, ltb, List, [], ◌∷◌, length, sym, refl, ap, ◌∙◌, subst, ⊎_elim, add-one, arith}
+use Rattle.std.proofs.Common.{◌≡◌, ℕ, zero, suc, ◌+◌, ◌-◌, ◌<◌, ◌≤◌, Bool, true, false, cond, ◌&&◌, eqb, ltb, List, [], ◌∷◌, length, get_or, take, drop, count_by, sym, refl, ap, ◌∙◌, subst, ⊎_elim, arith}
 use Rattle.std.proofs.lemmas.Bool.{and_parts, ltb-true, lt-ltb, eqb-true, eq-eqb, ne_eqb, cases_Bool}
+use Rattle.std.specs.List.{filter}
+use Rattle.std.proofs.lemmas.List.{length-drop, take_all, drop_all}
+use Rattle.std.proofs.lemmas.List.Sums.{length-filter}
+use Rattle.std.proofs.Math.Seq.{drop-cons}
 use Rattle.grid.specs.declared.shape.Grid.{Grid}
 use Rattle.grid.specs.Boundaries.{share_a_side, neighbours}
 use Rattle.grid.specs.Tiles.{number, place, has_tile}
 use Rattle.grid.proofs.Numbering.{place_tells_number}
 use Rattle.grid.proofs.Pairs.{four}
+use Rattle.net.specs.Checked.{records_of}
+use Rattle.net.specs.declared.records.Route.{Route}
 use Rattle.net.specs.declared.records.record.Record.{Record}
 use Rattle.net.specs.Proper.{Proper}
-use Rattle.net.specs.Routes.{tile_of, parent_of, is_child}
+use Rattle.net.specs.Routes.{no_record, tile_of, parent_of, is_child}
+use Rattle.net.proofs.Properly.{proper}
 use Rattle.length_rule.specs.Children.{indices, kept, sum_over}
-use Rattle.length_rule.proofs.Sums.{sum_none, sum_one, sum_two}
+use Rattle.length_rule.proofs.Sums.{sum_none, sum_one, sum_two, sum_from, from_first, from_later}
 use Rattle.length_rule.proofs.Unique.{child_later}
 use Rattle.route_facts.specs.Facts.{child_count, FewChildren}
 use Rattle.route_facts.proofs.Crossings.{same_index}
@@ -152,18 +159,30 @@ module _ (g : Grid) (rs : List Record) (p : Proper g rs) (i : ℕ) (h : i < leng
       go k l false true e f = omega (arith, near_turned k l (subst (λ (j : ℕ). neighbours g (tile_of rs i) (tile_of rs j) ≡ true) (sym (eqb-true k (parent_of rs i) f)) (p.beside i pos h)))
       go k l false false e f = omega arith
 
-pub few_children : (g : Grid) (rs : List Record) → Proper g rs → FewChildren rs
-few_children g rs p i h = (children_near g rs p i h, past_driver g rs p i h)
+pub few_children : (r : Route) → FewChildren (records_of r)
+few_children r i h = (children_near r.grid (records_of r) (proper r) i h, past_driver r.grid (records_of r) (proper r) i h)
 
--- one index more
-pub kept_more : (rs : List Record) (i k n : ℕ) (b : Bool) → 0 < k → eqb (parent_of rs k) i ≡ b → n ≡ length (kept (is_child rs i) (indices k)) → one_if b + n ≡ length (kept (is_child rs i) (indices (k + 1)))
-kept_more rs i k n b pos e f =
-    let child : is_child rs i k ≡ b = ap (λ (x : Bool). x && eqb (parent_of rs k) i) (lt-ltb 0 k pos) ∙ e in
-    subst (λ (m : ℕ). one_if b + n ≡ length (kept (is_child rs i) (indices m))) (sym (add-one k)) (go b child)
+-- the records from s on that name this parent
+named_from : (rs : List Record) (i c s : ℕ) → s + c ≡ length rs → 0 < s → length (filter (λ (r : Record). eqb r.parent i) (drop s rs)) ≡ sum_from c s (λ k. one_if (is_child rs i k))
+named_from rs i zero s e pos = ap (λ (xs : List Record). length (filter (λ (r : Record). eqb r.parent i) xs)) (drop_all s rs (omega arith))
+named_from rs i (suc c) s e pos =
+    let here : one_if (eqb (parent_of rs s) i) ≡ one_if (is_child rs i s) = ap (λ (b : Bool). one_if (b && eqb (parent_of rs s) i)) (sym (lt-ltb 0 s pos)) in
+    ap (λ (xs : List Record). length (filter (λ (r : Record). eqb r.parent i) xs)) (drop-cons rs s no_record (omega arith))
+    ∙ omega (arith, here, kept_first (eqb (parent_of rs s) i), named_from rs i c (suc s) (omega arith) (omega arith))
   where
-    go : (c : Bool) → is_child rs i k ≡ c → one_if c + n ≡ length (cond (is_child rs i k) (k ∷ kept (is_child rs i) (indices k)) (kept (is_child rs i) (indices k)))
-    go c d = subst (λ (x : Bool). one_if c + n ≡ length (cond x (k ∷ kept (is_child rs i) (indices k)) (kept (is_child rs i) (indices k)))) (sym d) (at c)
-      where
-        at : (c : Bool) → one_if c + n ≡ length (cond c (k ∷ kept (is_child rs i) (indices k)) (kept (is_child rs i) (indices k)))
-        at true = omega (arith, f)
-        at false = omega (arith, f)
+    kept_first : (b : Bool) → length (cond b (get_or rs s no_record ∷ filter (λ (r : Record). eqb r.parent i) (drop (suc s) rs)) (filter (λ (r : Record). eqb r.parent i) (drop (suc s) rs))) ≡ one_if b + length (filter (λ (r : Record). eqb r.parent i) (drop (suc s) rs))
+    kept_first true = omega arith
+    kept_first false = omega arith
+
+-- the first record is nobody's child
+pub named_later : (r : Route) (rs : List Record) (i n : ℕ) → rs ≡ records_of r → n ≡ count_by (λ (x : Record). eqb x.parent i) (take (length rs - 1) (drop 1 rs)) → n ≡ child_count (records_of r) i
+named_later r rs i n e counted =
+    let some : 1 ≤ length rs = omega (arith, (proper r).some, ap length e) in
+    let whole : 1 + (length rs - 1) ≡ length rs = omega arith in
+    let f : ℕ → ℕ = λ k. one_if (is_child rs i k) in
+    counted
+    ∙ (ap (count_by (λ (x : Record). eqb x.parent i)) (take_all (length rs - 1) (drop 1 rs) (omega (arith, length-drop 1 rs)))
+    ∙ (sym (length-filter (λ (x : Record). eqb x.parent i) (drop 1 rs))
+    ∙ (named_from rs i (length rs - 1) 1 whole (omega arith)
+    ∙ (from_later (length rs - 1) 1 f (λ k h. let z : 0 ≡ k = omega arith in subst (λ (j : ℕ). f j ≡ 0) z refl)
+    ∙ (ap (λ (n : ℕ). sum_from n 0 f) whole ∙ (from_first (length rs) f ∙ (sym (length_kept (is_child rs i) (indices (length rs))) ∙ ap (λ (xs : List Record). child_count xs i) e)))))))

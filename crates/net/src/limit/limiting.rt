@@ -14,7 +14,7 @@ impl Limit {
         ensures answer { figure_of result ≡ limited figure }
         ensures told { told_by told result ≡ limit_refusal figure }
     {
-        if figure < 1 || figure > Limit::LARGEST {
+        if !(1..=Limit::LARGEST).contains(&figure) {
             return Err(LimitFault::Outside(figure));
         }
         Ok(Limit {
@@ -25,6 +25,6 @@ impl Limit {
     pub fn figure(self) -> usize
         ensures { result ≡ self.value }
     {
-        self.value as usize
+        usize::from(self.value)
     }
 }

@@ -7,7 +7,7 @@ ghost use Rattle.net.specs.Checked.{records_of, parts_of, route_checked};
 
 use crate::records::Route;
 use crate::records::record::{Record, RouteFault};
-use crate::records::scan::route_fault;
+use crate::records::scan::check_records;
 use grid::shape::Grid;
 
 // The places of a route, with these records in the first of them.
@@ -15,14 +15,8 @@ fn placed(records: &[Record]) -> [Record; 256]
     requires { length records.now ≤ 256 }
     ensures { take (length records.now) result ≡ records.now }
 {
-    let mut places = [Record {
-        tile: 0,
-        parent: 0,
-        sink: false,
-    }; 256];
-    for i in 0..records.len() {
-        places[i] = records[i];
-    }
+    let mut places = [Record::default(); 256];
+    places[..records.len()].copy_from_slice(records);
     places
 }
 
@@ -35,21 +29,19 @@ impl Route {
         ensures told { told_by told result ≡ route_refusal grid records.now }
         ensures exactly { Decides (is_ok result) (Proper grid records.now) }
     {
-        match route_fault(grid, records) {
-            Some(fault) => Err(fault),
-            None => Ok(Route {
-                grid,
-                count: records.len(),
-                records: placed(records),
-            }),
-        }
+        check_records(grid, records)?;
+        Ok(Route {
+            grid,
+            count: records.len(),
+            records: placed(records),
+        })
     }
 
     // The records, one for each index.
     pub fn records(&self) -> &[Record]
         ensures { result.now ≡ records_of self.now }
     {
-        &self.records[0..self.count]
+        &self.records[..self.count]
     }
 
     pub fn grid(&self) -> Grid

@@ -2,7 +2,7 @@
 
 // A tile of the net, the index of the record that it hangs from, and whether it holds a sink. Index 0 is the driver's
 // tile and names itself.
-#[derive(Clone, Copy, PartialEq, Eq, Debug)]
+#[derive(Clone, Copy, Default, PartialEq, Eq, Debug)]
 pub struct Record {
     pub tile: u16,
     pub parent: u16,

@@ -1,7 +1,7 @@
 // The check of records as a route, in one pass for the records and one for their ends. A mark for each tile of the
 // largest grid tells whether it stood at an earlier index, and a mark for each index whether it is a parent.
 ghost use Rattle.std.specs.Prelude.{◌≡◌, ◌<◌, ◌≤◌, true, length};
-ghost use Rattle.net.specs.Lowest.{lowest};
+ghost use Rattle.net.specs.Lowest.{lowest, fault_of};
 ghost use Rattle.net.specs.Marks.{TilesMarked, ParentsMarked};
 ghost use Rattle.net.specs.Routes.{parent_of, parent_fits, beside_parent, record_fault, end_fault, route_fault};
 
@@ -30,92 +30,85 @@ fn beside_parent(grid: Grid, records: &[Record], index: usize) -> bool
     ensures { result ≡ beside_parent grid records.now index }
 {
     let record = records[index];
-    index == 0
-        || grid.neighbours(
-            record.tile as usize,
-            records[record.parent as usize].tile as usize,
-        )
+    let parent = usize::from(record.parent);
+    index == 0 || grid.neighbours(usize::from(record.tile), usize::from(records[parent].tile))
 }
 
-// What is wrong with the record at this index, where `seen` marks the tiles of the earlier ones.
-fn record_fault(grid: Grid, records: &[Record], index: usize, seen: &[bool]) -> Option<RouteFault>
+// The tests of the record at this index, where `seen` marks the tiles of the earlier ones.
+fn check_record(
+    grid: Grid,
+    records: &[Record],
+    index: usize,
+    seen: &[bool],
+) -> Result<(), RouteFault>
     requires within { index < length records.now }
     requires marked { TilesMarked records.now index seen.now }
-    ensures { result ≡ record_fault grid records.now index }
+    ensures { fault_of result ≡ record_fault grid records.now index }
 {
     let record = records[index];
-    let tile = record.tile as usize;
+    let tile = usize::from(record.tile);
     if tile >= grid.tile_count() {
-        return Some(RouteFault::OffGrid(index));
+        return Err(RouteFault::OffGrid(index));
     }
-    if !parent_fits(record.parent as usize, index) {
-        return Some(RouteFault::Parent(index));
+    if !parent_fits(usize::from(record.parent), index) {
+        return Err(RouteFault::Parent(index));
     }
     if !beside_parent(grid, records, index) {
-        return Some(RouteFault::Apart(index));
+        return Err(RouteFault::Apart(index));
     }
     if seen[tile] {
-        return Some(RouteFault::Repeated(index));
+        return Err(RouteFault::Repeated(index));
     }
-    None
+    Ok(())
 }
 
-// What is wrong with the lowest index whose record is wrong.
-fn first_record_fault(grid: Grid, records: &[Record]) -> Option<RouteFault>
-    ensures { result ≡ lowest (record_fault grid records.now) (length records.now) }
+// Refuses the lowest index whose record is wrong.
+fn check_each(grid: Grid, records: &[Record]) -> Result<(), RouteFault>
+    ensures { fault_of result ≡ lowest (record_fault grid records.now) (length records.now) }
 {
     let mut seen = [false; TILES];
-    for i in 0..records.len() {
-        let fault = record_fault(grid, records, i, &seen);
-        if fault.is_some() {
-            return fault;
-        }
-        seen[records[i].tile as usize] = true;
+    for (i, record) in records.iter().enumerate() {
+        check_record(grid, records, i, &seen)?;
+        seen[usize::from(record.tile)] = true;
     }
-    None
+    Ok(())
 }
 
 // A mark for each index that is a parent.
 fn mark_parents(records: &[Record]) -> [bool; MOST]
-    requires some { 1 ≤ length records.now }
-    requires counted { length records.now ≤ 256 }
     ensures { ParentsMarked records.now (length records.now) result }
 {
     let mut parents = [false; MOST];
-    for k in 1..records.len() {
-        let parent = records[k].parent as usize;
-        if parent < MOST {
+    for (k, record) in records.iter().enumerate() {
+        let parent = usize::from(record.parent);
+        if k > 0 && parent < MOST {
             parents[parent] = true;
         }
     }
     parents
 }
 
-// What is wrong with the lowest index that has neither child nor sink.
-fn first_end_fault(records: &[Record]) -> Option<RouteFault>
-    requires some { 1 ≤ length records.now }
-    requires counted { length records.now ≤ 256 }
-    ensures { result ≡ lowest (end_fault records.now) (length records.now) }
+// Refuses the lowest index that has neither child nor sink.
+fn check_ends(records: &[Record]) -> Result<(), RouteFault>
+    requires { length records.now ≤ 256 }
+    ensures { fault_of result ≡ lowest (end_fault records.now) (length records.now) }
 {
     let parents = mark_parents(records);
-    for i in 0..records.len() {
-        if !records[i].sink && !parents[i] {
-            return Some(RouteFault::Useless(i));
+    for (i, record) in records.iter().enumerate() {
+        if !record.sink && !parents[i] {
+            return Err(RouteFault::Useless(i));
         }
     }
-    None
+    Ok(())
 }
 
-// What is wrong with the records as a route.
-pub fn route_fault(grid: Grid, records: &[Record]) -> Option<RouteFault>
-    ensures { result ≡ route_fault grid records.now }
+// Refuses what is no route.
+pub fn check_records(grid: Grid, records: &[Record]) -> Result<(), RouteFault>
+    ensures { fault_of result ≡ route_fault grid records.now }
 {
-    if records.len() < 1 || records.len() > MOST {
-        return Some(RouteFault::Count(records.len()));
+    if records.is_empty() || records.len() > MOST {
+        return Err(RouteFault::Count(records.len()));
     }
-    let fault = first_record_fault(grid, records);
-    if fault.is_some() {
-        return fault;
-    }
-    first_end_fault(records)
+    check_each(grid, records)?;
+    check_ends(records)
 }

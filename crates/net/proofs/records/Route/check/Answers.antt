@@ -1,17 +1,9 @@
-use Rattle.std.proofs.Common.{Some, None, rules}
+use Rattle.std.proofs.Common.{Ok, rules}
 use Rattle.net.proofs.Properly.{exactly}
 use Rattle.net.proofs.records.Route.check.Goals as goal
 
-pub returns-in-Some : goal.returns-in-Some
-returns-in-Some c = record {
-  answer = search rules;
-  told = search rules;
-  exactly = exactly c.args.grid c.args.records.now (Some c.in-Some.fault) c.in-Some.ensures;
-}
+pub returns-in_err-check_records-clause-exactly : goal.returns-in_err-check_records-clause-exactly
+returns-in_err-check_records-clause-exactly c = exactly c.args.grid c.args.records.now c.from_residual.result (search rules)
 
-pub returns-in-None : goal.returns-in-None
-returns-in-None c = record {
-  answer = search rules;
-  told = search rules;
-  exactly = exactly c.args.grid c.args.records.now None c.in-None.ensures;
-}
+pub returns-clause-exactly : goal.returns-clause-exactly
+returns-clause-exactly c = exactly c.args.grid c.args.records.now (Ok c.in_ok-check_records.field-0) c.in_ok-check_records.ensures

@@ -1,7 +1,7 @@
 use Rattle.std.proofs.Common.{◌≡◌, None}
 use Rattle.net.specs.Lowest.{lowest}
 use Rattle.length_rule.specs.Refusals.{mark_fault}
-use Rattle.hand_plan.proofs.first_mark_fault.Given as goal
+use Rattle.hand_plan.proofs.check_marks.Given as goal
 
 abbrev pub invariant-loop-index : goal.invariant-loop-index
 invariant-loop-index l = lowest (mark_fault l.marks) l.index ≡ None
