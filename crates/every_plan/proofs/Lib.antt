@@ -1,4 +1,2 @@
-pub mod Tables
-pub mod Plans
-pub mod Folds
-pub mod Nets
+pub mod Fours
+pub mod Reduced

@@ -1,13 +1,13 @@
 -- How an answer of the search stands beside trying every plan.
 use Rattle.std.specs.Prelude.{ℕ, Bool, true, false, ◌&&◌, List, length, take, replicate, Some, None, Ok, Err, Option, Result}
 use Rattle.net.specs.declared.limit.LimitFault.{LimitFault}
-use Rattle.net.specs.declared.records.record.Record.{Record}
 use Rattle.net.specs.Limits.{limited}
 use Rattle.best_plan.specs.Chosen.{chosen}
 use Rattle.search_theory.specs.Costs.{Kind}
 use Rattle.search.specs.declared.fault.SearchFault.{SearchFault}
 use Rattle.search.specs.Answers.{search_answer, marks_after}
 use Rattle.every_plan.specs.declared.comparing.Verdict.{Verdict}
+use Rattle.every_plan.specs.Nets.{Net}
 use Rattle.every_plan.specs.Shapes.{shape_room}
 use Rattle.every_plan.specs.Trying.{accepted_cost, by_trying}
 
@@ -35,13 +35,13 @@ judged at_most (Err fault) cheapest accepted = no_answer
 judged at_most (Ok None) cheapest accepted = verdict (tie at_most None cheapest) false
 judged at_most (Ok (Some cost)) cheapest accepted = verdict (tie at_most (Some cost) cheapest && tie at_most (Some cost) accepted) true
 
-module _ {C : Type 0} (o : Kind C) (rs : List Record) (spare : List ℕ) (prices : List (Option C)) (cells : ℕ) where
+module _ {C : Type 0} (o : Kind C) (net : Net C) (cells : ℕ) where
   -- how the search answers at a limit, with so many work cells and these marks lent
   abbrev pub searched : (marks : List ℕ) (limit : ℕ) → Verdict
   searched marks limit =
-      let choice = chosen o limit rs spare prices in
-      judged o.at_most (search_answer limit (length rs) cells (length marks) choice) (by_trying o limit rs spare prices)
-      (accepted_cost o limit rs spare prices (marks_after limit (length rs) cells marks choice))
+      let choice = chosen o limit net.records net.spare net.prices in
+      judged o.at_most (search_answer limit (length net.records) cells (length marks) choice) (by_trying o net limit)
+      (accepted_cost o net limit (marks_after limit (length net.records) cells marks choice))
 
   abbrev pub where_limited : (marks : List ℕ) → Result ℕ LimitFault → Verdict
   where_limited marks (Ok limit) = searched marks limit
@@ -49,4 +49,4 @@ module _ {C : Type 0} (o : Kind C) (rs : List Record) (spare : List ℕ) (prices
 
   -- how it answers at the limit of a figure, with blank marks lent
   abbrev pub compared : (figure : ℕ) → Verdict
-  compared figure = where_limited (blank (length rs)) (limited figure)
+  compared figure = where_limited (blank (length net.records)) (limited figure)

@@ -1,31 +1,32 @@
 -- What a crowd leaves along a route: spare sites, and a price where there is one.
-use Rattle.std.specs.Prelude.{ℕ, ◌-◌, cond, List, map, length, Some, None, fold, Option, nat_lt, slice_index}
+use Rattle.std.specs.Prelude.{ℕ, ◌-◌, cond, List, map, length, Some, None, fold, Option, nat_lt, slice_get}
 use Rattle.std.specs.List.{range_with_len}
-use Rattle.every_plan.specs.declared.crowds.Crowd.{Crowd}
-use Rattle.every_plan.specs.Shapes.{shape_room}
+use Rattle.std.specs.Option.{option_and_then}
+use Rattle.cost.specs.declared.costs.Cost.{Ghosts}
+use Rattle.every_plan.specs.declared.crowds.Tile.{Tile}
 
 -- the capacity less the use; the difference stops at 0
-abbrev pub spare_at : Crowd → ℕ → ℕ
-spare_at c k = slice_index c.capacities k - slice_index c.used k
+abbrev pub spare_in : Tile → ℕ
+spare_in t = t.capacity - t.used
 
 -- the spare sites at each index
-abbrev pub spare_along : Crowd → List ℕ
-spare_along c = map (spare_at c) (range_with_len 0 shape_room)
+abbrev pub spare_along : List Tile → List ℕ
+spare_along tiles = map spare_in tiles
 
--- `priced` has a price as plain numbers, and `held` reads them as a cost
-module _ {C V : Type 0} (held : V → C) (priced : ℕ → ℕ → ℕ → V) where
+-- `priced` has a price as plain numbers, and the cost type with these members reads them as a cost
+module _ {C V : Type 0} (members : Ghosts C V) (priced : ℕ → ℕ → ℕ → V) where
   -- a site has a price only where the capacity exceeds the use
-  abbrev pub price_in : (capacity used share : ℕ) → Option C
-  price_in capacity used share = cond (nat_lt used capacity) (Some (held (priced capacity used share))) None
+  abbrev pub price_in : Tile → Option C
+  price_in t = cond (nat_lt t.used t.capacity) (Some (members.held (priced t.capacity t.used t.share))) None
 
   -- the price at an index; none past the tiles that are told of
-  abbrev pub price_at : Crowd → ℕ → Option C
-  price_at c k = cond (nat_lt k shape_room) (price_in (slice_index c.capacities k) (slice_index c.used k) (slice_index c.shares k)) None
+  abbrev pub price_at : List Tile → ℕ → Option C
+  price_at tiles k = option_and_then price_in (slice_get tiles k)
 
   -- the prices at so many indices
-  abbrev pub prices_along : ℕ → Crowd → List (Option C)
-  prices_along n c = map (price_at c) (range_with_len 0 n)
+  abbrev pub prices_along : ℕ → List Tile → List (Option C)
+  prices_along n tiles = map (price_at tiles) (range_with_len 0 n)
 
   -- the prices after those of each crowd were written over them
-  abbrev pub prices_after : List (Option C) → List Crowd → List (Option C)
-  prices_after before crowds = fold (λ _ c. prices_along (length before) c) before crowds
+  abbrev pub prices_after : List (Option C) → List (List Tile) → List (Option C)
+  prices_after before crowds = fold (λ _ tiles. prices_along (length before) tiles) before crowds

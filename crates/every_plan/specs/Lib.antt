@@ -1,4 +1,5 @@
 pub mod Shapes
+pub mod Nets
 pub mod Crowds
 pub mod Codes
 pub mod Trying

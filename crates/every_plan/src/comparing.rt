@@ -1,16 +1,15 @@
 // One net in one kind of cost: the search's answer beside that of trying every plan.
 ghost use Rattle.std.specs.Prelude.{◌≡◌, length};
-ghost use Rattle.net.specs.Checked.{records_of};
 ghost use Rattle.best_plan.specs.Chosen.{chosen};
 ghost use Rattle.search_theory.specs.Costs.{kind_of};
 ghost use Rattle.search.specs.Answers.{marks_after};
 ghost use Rattle.every_plan.specs.Comparing.{tie, judged, searched, compared};
+ghost use Rattle.every_plan.specs.Nets.{net_of};
 
 use crate::shapes::RECORDS;
-use crate::trying::{accepted_cost, by_trying};
+use crate::trying::Case;
 use cost::Cost;
 use net::limit::Limit;
-use net::records::Route;
 use search::fault::SearchFault;
 use search::search;
 use search_cells::Entry;
@@ -48,52 +47,43 @@ fn judged<P: Cost>(
 ) -> Verdict
     ensures { result ≡ judged P.Cost.at_most answer cheapest accepted }
 {
-    match answer {
-        Err(_) => NO_ANSWER,
-        Ok(None) => Verdict {
-            right: tie::<P>(None, cheapest),
-            plan: false,
-        },
-        Ok(Some(cost)) => Verdict {
-            right: tie(Some(cost), cheapest) && tie(Some(cost), accepted),
-            plan: true,
-        },
+    let Ok(cost) = answer else {
+        return NO_ANSWER;
+    };
+    Verdict {
+        right: tie(cost, cheapest) && (cost.is_none() || tie(cost, accepted)),
+        plan: cost.is_some(),
     }
 }
 
-// How the search answers with these marks lent.
-fn searched<P: Cost>(
-    limit: Limit,
-    route: &Route,
-    spare: &[u16],
-    prices: &[Option<P>],
-    cells: &mut [Option<Entry<P::Cell>>],
-    marks: &mut [u8],
-) -> Verdict
-    ensures verdict { result ≡ searched (kind_of P.Cost) (records_of route.now) spare.now prices.now (length cells.old) marks.old limit.value }
-    ensures marks { marks.new ≡ marks_after limit.value (length (records_of route.now)) (length cells.old) marks.old (chosen (kind_of P.Cost) limit.value (records_of route.now) spare.now prices.now) }
-{
-    let answer = search::<P>(limit, route, spare, prices, cells, marks);
-    let cheapest = by_trying::<P>(limit, route, spare, prices);
-    let accepted = accepted_cost::<P>(limit, route, spare, prices, marks);
-    judged(answer, cheapest, accepted)
-}
+impl<'a, P: Cost> Case<'a, P> {
+    // How the search answers with these marks lent. What the cells hold before and after it does not matter.
+    fn searched(
+        &self,
+        limit: Limit,
+        cells: &mut [Option<Entry<P::Cell>>],
+        marks: &mut [u8],
+    ) -> Verdict
+        ensures verdict { result ≡ searched (kind_of P.Cost) (net_of self.now) (length cells.old) marks.old limit.value }
+        ensures marks { let net = net_of self.now in marks.new ≡ marks_after limit.value (length net.records) (length cells.old) marks.old (chosen (kind_of P.Cost) limit.value net.records net.spare net.prices) }
+    {
+        let answer = search::<P>(limit, self.route, self.spare, self.prices, cells, marks);
+        judged(
+            answer,
+            self.by_trying(limit),
+            self.accepted_cost(limit, marks),
+        )
+    }
 
-// How the search of this net answers at the limit of this figure, with blank marks lent. What the cells hold before and
-// after it does not matter.
-pub(crate) fn compared<P: Cost>(
-    figure: usize,
-    route: &Route,
-    spare: &[u16],
-    prices: &[Option<P>],
-    cells: &mut [Option<Entry<P::Cell>>],
-) -> Verdict
-    ensures { result ≡ compared (kind_of P.Cost) (records_of route.now) spare.now prices.now (length cells.old) figure }
-{
-    let mut marks = [0; RECORDS];
-    let count = route.records().len().min(RECORDS);
-    match Limit::new(figure) {
-        Err(_) => NO_ANSWER,
-        Ok(limit) => searched::<P>(limit, route, spare, prices, cells, &mut marks[0..count]),
+    // How the search answers at the limit of this figure, with blank marks lent.
+    pub(crate) fn compared(&self, figure: usize, cells: &mut [Option<Entry<P::Cell>>]) -> Verdict
+        ensures { result ≡ compared (kind_of P.Cost) (net_of self.now) (length cells.old) figure }
+    {
+        let Ok(limit) = Limit::new(figure) else {
+            return NO_ANSWER;
+        };
+        let mut marks = [0; RECORDS];
+        let places = self.places();
+        self.searched(limit, cells, &mut marks[..places])
     }
 }

@@ -24,89 +24,31 @@ use worst_tile::WorstTile;
 // The work cells that the search of any shape needs at the largest limit that is tried.
 const CELLS: usize = (RECORDS + 10) * (LIMITS + 1);
 
-fn print_tally(rt: &HostRuntime, kind: &str, tally: Tally) -> io::Result<()> {
-    println!(rt;
-        "{kind}: {} answers, {} plans, {} different",
-        tally.compared, tally.plans, tally.different
-    )
-}
-
 // What one kind of cost gives.
-fn print_kind<P: Pricing>(
-    rt: &HostRuntime,
-    kind: &str,
-    grid: Grid,
-    prices: &mut [Option<P>],
-    cells: &mut [Option<Entry<P::Cell>>],
-) -> io::Result<()> {
-    let tally = tried::<P>(grid, &SHAPES, &CROWDS, prices, cells);
-    print_tally(rt, kind, tally)
-}
-
-fn print_count(rt: &HostRuntime, grid: Grid) -> io::Result<()> {
-    let mut prices: [Option<Count>; RECORDS] = [None; RECORDS];
-    let mut cells: [Option<Entry<u16>>; CELLS] = [None; CELLS];
-    print_kind::<Count>(rt, "count", grid, &mut prices, &mut cells)
-}
-
-fn print_congestion(rt: &HostRuntime, grid: Grid) -> io::Result<()> {
-    let mut prices: [Option<Congestion>; RECORDS] = [None; RECORDS];
-    let mut cells: [Option<Entry<u64>>; CELLS] = [None; CELLS];
-    print_kind::<Congestion>(rt, "congestion", grid, &mut prices, &mut cells)
-}
-
-fn print_worst_tile(rt: &HostRuntime, grid: Grid) -> io::Result<()> {
-    let mut prices: [Option<WorstTile>; RECORDS] = [None; RECORDS];
-    let mut cells: [Option<Entry<u16>>; CELLS] = [None; CELLS];
-    print_kind::<WorstTile>(rt, "worst tile", grid, &mut prices, &mut cells)
-}
-
-fn print_count_then_congestion(rt: &HostRuntime, grid: Grid) -> io::Result<()> {
-    let mut prices: [Option<Pair<Count, Congestion>>; RECORDS] = [None; RECORDS];
-    let mut cells: [Option<Entry<(u16, u64)>>; CELLS] = [None; CELLS];
-    print_kind::<Pair<Count, Congestion>>(
-        rt,
-        "count, then congestion",
-        grid,
-        &mut prices,
-        &mut cells,
-    )
-}
-
-fn print_congestion_then_worst_tile(rt: &HostRuntime, grid: Grid) -> io::Result<()> {
-    let mut prices: [Option<Pair<Congestion, WorstTile>>; RECORDS] = [None; RECORDS];
-    let mut cells: [Option<Entry<(u64, u16)>>; CELLS] = [None; CELLS];
-    print_kind::<Pair<Congestion, WorstTile>>(
-        rt,
-        "congestion, then worst tile",
-        grid,
-        &mut prices,
-        &mut cells,
-    )
-}
-
-fn print_count_then_congestion_then_worst_tile(rt: &HostRuntime, grid: Grid) -> io::Result<()> {
-    let mut prices: [Option<Pair<Count, Pair<Congestion, WorstTile>>>; RECORDS] = [None; RECORDS];
-    let mut cells: [Option<Entry<(u16, (u64, u16))>>; CELLS] = [None; CELLS];
-    print_kind::<Pair<Count, Pair<Congestion, WorstTile>>>(
-        rt,
-        "count, then congestion, then worst tile",
-        grid,
-        &mut prices,
-        &mut cells,
-    )
+fn print_kind<P: Pricing>(rt: &HostRuntime, kind: &str, grid: Grid) -> io::Result<()> {
+    // Vectors, since no array of a type parameter is known to fit in memory.
+    let mut prices: Vec<Option<P>> = vec![in rt.alloc(); None; RECORDS]?;
+    let mut cells: Vec<Option<Entry<P::Cell>>> = vec![in rt.alloc(); None; CELLS]?;
+    let Tally {
+        compared,
+        plans,
+        different,
+    } = tried(grid, &SHAPES, &CROWDS, &mut prices, &mut cells);
+    println!(rt; "{kind}: {compared} answers, {plans} plans, {different} different")
 }
 
 fn main(rt: HostRuntime) -> io::Result<()> {
-    match Grid::new(5, 5) {
-        Err(_) => println!(rt; "no grid"),
-        Ok(grid) => {
-            print_count(&rt, grid)?;
-            print_congestion(&rt, grid)?;
-            print_worst_tile(&rt, grid)?;
-            print_count_then_congestion(&rt, grid)?;
-            print_congestion_then_worst_tile(&rt, grid)?;
-            print_count_then_congestion_then_worst_tile(&rt, grid)
-        }
-    }
+    let Ok(grid) = Grid::new(5, 5) else {
+        return println!(rt; "no grid");
+    };
+    print_kind::<Count>(&rt, "count", grid)?;
+    print_kind::<Congestion>(&rt, "congestion", grid)?;
+    print_kind::<WorstTile>(&rt, "worst tile", grid)?;
+    print_kind::<Pair<Count, Congestion>>(&rt, "count, then congestion", grid)?;
+    print_kind::<Pair<Congestion, WorstTile>>(&rt, "congestion, then worst tile", grid)?;
+    print_kind::<Pair<Count, Pair<Congestion, WorstTile>>>(
+        &rt,
+        "count, then congestion, then worst tile",
+        grid,
+    )
 }

@@ -1,16 +1,17 @@
 // Many nets in one kind of cost, and how their answers compared.
-ghost use Rattle.std.specs.Prelude.{◌≡◌, length};
-ghost use Rattle.net.specs.Checked.{records_of};
+ghost use Rattle.std.specs.Prelude.{◌≡◌, map, length};
 ghost use Rattle.search_theory.specs.Costs.{kind_of};
-ghost use Rattle.every_plan.specs.Tallies.{counted, on_route, of_shape, in_crowd, tried};
 ghost use Rattle.every_plan.specs.Crowds.{prices_along, prices_after};
+ghost use Rattle.every_plan.specs.Nets.{net_of};
+ghost use Rattle.every_plan.specs.Tallies.{counted, on_route, of_shape, in_crowd, tried};
 
-use crate::comparing::{NO_ANSWER, Verdict, compared};
+use crate::comparing::{NO_ANSWER, Verdict};
 use crate::crowds::{Crowd, spare_along, write_prices};
-use crate::shapes::{Shape, route_of};
+use crate::trying::Case;
 use cost::{Cost, Pricing};
 use grid::shape::Grid;
 use net::records::Route;
+use net::records::record::Record;
 use search_cells::Entry;
 
 // The largest limit that is tried.
@@ -24,32 +25,26 @@ pub(crate) struct Tally {
     pub(crate) different: usize,
 }
 
-// One answer more.
-fn counted(tally: Tally, verdict: Verdict) -> Tally
-    ensures { result ≡ counted tally verdict }
-{
-    Tally {
-        compared: tally.compared.saturating_add(1),
-        plans: tally.plans.saturating_add(if verdict.plan { 1 } else { 0 }),
-        different: tally
-            .different
-            .saturating_add(if verdict.right { 0 } else { 1 }),
+impl Tally {
+    // One answer more.
+    fn counted(self, verdict: Verdict) -> Tally
+        ensures { result ≡ counted self verdict }
+    {
+        Tally {
+            compared: self.compared.saturating_add(1),
+            plans: self.plans.saturating_add(usize::from(verdict.plan)),
+            different: self.different.saturating_add(usize::from(!verdict.right)),
+        }
     }
 }
 
-// A route at each limit.
-fn on_route<P: Cost>(
-    route: &Route,
-    spare: &[u16],
-    prices: &[Option<P>],
-    cells: &mut [Option<Entry<P::Cell>>],
-    before: Tally,
-) -> Tally
-    ensures { result ≡ on_route (kind_of P.Cost) spare.now prices.now (length cells.old) before (records_of route.now) }
+// A net at each limit.
+fn on_route<P: Cost>(case: &Case<P>, cells: &mut [Option<Entry<P::Cell>>], before: Tally) -> Tally
+    ensures { result ≡ on_route (kind_of P.Cost) (length cells.old) (net_of case.now) before }
 {
     let mut tally = before;
     for figure in 1..=LIMITS {
-        tally = counted(tally, compared::<P>(figure, route, spare, prices, cells));
+        tally = tally.counted(case.compared(figure, cells));
     }
     tally
 }
@@ -57,37 +52,42 @@ fn on_route<P: Cost>(
 // A shape at each limit.
 fn of_shape<P: Cost>(
     grid: Grid,
-    shape: &Shape,
+    shape: &[Record],
     spare: &[u16],
     prices: &[Option<P>],
     cells: &mut [Option<Entry<P::Cell>>],
     before: Tally,
 ) -> Tally
-    ensures { result ≡ of_shape (kind_of P.Cost) spare.now prices.now (length cells.old) grid before shape.now }
+    ensures { result ≡ of_shape (kind_of P.Cost) (length cells.old) spare.now prices.now grid before shape.now }
 {
-    match route_of(grid, shape) {
-        Err(_) => counted(before, NO_ANSWER),
-        Ok(route) => on_route::<P>(&route, spare, prices, cells, before),
-    }
+    let Ok(route) = Route::check(grid, shape) else {
+        return before.counted(NO_ANSWER);
+    };
+    let case = Case {
+        route: &route,
+        spare,
+        prices,
+    };
+    on_route(&case, cells, before)
 }
 
 // Each shape at each limit in one crowd, whose prices are written.
 fn in_crowd<P: Pricing>(
-    crowd: &Crowd,
+    crowd: Crowd,
     grid: Grid,
-    shapes: &[Shape],
+    shapes: &[&[Record]],
     prices: &mut [Option<P>],
     cells: &mut [Option<Entry<P::Cell>>],
     before: Tally,
 ) -> Tally
-    ensures tally { result ≡ in_crowd (kind_of P.Cost) P.Cost.held P.Pricing.priced (length prices.old) (length cells.old) grid shapes.now before crowd.now }
-    ensures prices { prices.new ≡ prices_along P.Cost.held P.Pricing.priced (length prices.old) crowd.now }
+    ensures tally { result ≡ in_crowd P.Cost P.Pricing.priced (length prices.old) (length cells.old) grid (map (λ s. s.now) shapes.now) before crowd }
+    ensures prices { prices.new ≡ prices_along P.Cost P.Pricing.priced (length prices.old) crowd }
 {
-    write_prices::<P>(crowd, prices);
+    write_prices(&crowd, prices);
     let spare = spare_along(crowd);
     let mut tally = before;
     for shape in shapes {
-        tally = of_shape::<P>(grid, shape, &spare, prices, cells, tally);
+        tally = of_shape(grid, shape, &spare, prices, cells, tally);
     }
     tally
 }
@@ -95,13 +95,13 @@ fn in_crowd<P: Pricing>(
 // Each shape at each limit in each crowd.
 pub(crate) fn tried<P: Pricing>(
     grid: Grid,
-    shapes: &[Shape],
+    shapes: &[&[Record]],
     crowds: &[Crowd],
     prices: &mut [Option<P>],
     cells: &mut [Option<Entry<P::Cell>>],
 ) -> Tally
-    ensures tally { result ≡ tried (kind_of P.Cost) P.Cost.held P.Pricing.priced (length prices.old) (length cells.old) grid shapes.now crowds.now }
-    ensures prices { prices.new ≡ prices_after P.Cost.held P.Pricing.priced prices.old crowds.now }
+    ensures tally { result ≡ tried P.Cost P.Pricing.priced (length prices.old) (length cells.old) grid (map (λ s. s.now) shapes.now) crowds.now }
+    ensures prices { prices.new ≡ prices_after P.Cost P.Pricing.priced prices.old crowds.now }
 {
     let mut tally = Tally {
         compared: 0,
@@ -109,7 +109,7 @@ pub(crate) fn tried<P: Pricing>(
         different: 0,
     };
     for crowd in crowds {
-        tally = in_crowd::<P>(crowd, grid, shapes, prices, cells, tally);
+        tally = in_crowd(*crowd, grid, shapes, prices, cells, tally);
     }
     tally
 }

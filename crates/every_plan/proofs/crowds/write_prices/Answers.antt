@@ -1,20 +1,14 @@
-use Rattle.std.proofs.Common.{length, refl, arith}
+use Rattle.std.proofs.Common.{◌≡◌, ℕ, ◌+◌, ◌<◌, ◌++◌, ◌∷◌, [], List, map, length, take, set, sym, ◌∙◌, arith}
+use Rattle.std.proofs.lemmas.List.{take_more_set}
+use Rattle.std.proofs.lemmas.List.FromFn.{map-range_with_len_more}
+use Rattle.std.specs.List.{range_with_len}
 use Rattle.every_plan.specs.Crowds.{price_at}
-use Rattle.every_plan.proofs.Tables.{one_written, all_written}
 use Rattle.every_plan.proofs.crowds.write_prices.Goals as goal
 
-pub loop-index-init : goal.loop-index-init
-loop-index-init g c = (refl, refl)
-
-pub bounds-prices-index : goal.bounds-prices-index
-bounds-prices-index g c = omega (arith, c.loop-index.invariant.0)
+one_written : {X : Type 0} (f : ℕ → X) (xs : List X) (k : ℕ) (x : X) → k < length xs → x ≡ f k → take k xs ≡ map f (range_with_len 0 k) → take (k + 1) (set xs k x) ≡ map f (range_with_len 0 (k + 1))
+one_written f xs k x within is so =
+    take_more_set xs k x (omega arith) ∙ ((λ i. so i ++ is i ∷ []) ∙ sym (map-range_with_len_more f 0 k k (omega arith)))
 
 pub loop-index-preserved : goal.loop-index-preserved
 loop-index-preserved g c =
-    let its = price_at g.P.Cost.held g.P.Pricing.priced c.args.crowd.now in
-    one_written its c.loop-index.prices (length c.args.prices.now) c.loop-index.index c.price_at.result (omega arith) c.price_at.ensures c.loop-index.invariant
-
-pub returns : goal.returns
-returns g c =
-    let its = price_at g.P.Cost.held g.P.Pricing.priced c.args.crowd.now in
-    all_written its c.loop-index.prices (length c.args.prices.now) c.loop-index.index (omega arith) (omega arith) c.loop-index.invariant
+    one_written (price_at g.P.Cost g.P.Pricing.priced c.args.crowd.now) c.loop-index.prices c.loop-index.index c.price_at.result (omega arith) c.price_at.ensures c.loop-index.invariant
