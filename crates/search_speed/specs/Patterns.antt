@@ -1,8 +1,6 @@
 -- The strip and the comb: the tile and the parent of each record, on a grid of 64 columns.
 use Rattle.std.specs.Prelude.{ℕ, ◌+◌, ◌-◌, ◌*◌, ◌/◌, ◌%◌, true, cond, ◌==◌}
 use Rattle.net.specs.declared.records.record.Record.{Record}
-use Rattle.search_speed.specs.declared.patterns.Pattern.{Pattern}
-use Rattle.search_speed.specs.declared.patterns.Pattern.TheVariants.{Strip, Comb}
 
 -- the column of index k of the strip: to the right in each even row, back to the left in each odd one
 abbrev pub strip_column : ℕ → ℕ
@@ -16,7 +14,3 @@ strip_record k = record { tile = k / 64 * 64 + strip_column k; parent = k - 1; s
 -- spine it hangs from the tile of the spine before it, four indices back, and on a tooth from the index before it.
 abbrev pub comb_record : ℕ → Record
 comb_record k = record { tile = k % 4 * 64 + k / 4; parent = k - cond (k % 4 == 0) 4 1; sink = true }
-
-abbrev pub record_at : Pattern → ℕ → Record
-record_at Strip k = strip_record k
-record_at Comb k = comb_record k

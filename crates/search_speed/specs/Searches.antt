@@ -1,5 +1,5 @@
 -- What is searched for: a plan by count and then congestion, in the crowd.
-use Rattle.std.specs.Prelude.{ℕ, List, None, Ok, Err, Option, Result}
+use Rattle.std.specs.Prelude.{ℕ, List, Option}
 use Rattle.laws.specs.Amounts.{amount_at_most, capped_sum}
 use Rattle.cost.specs.Pairs.{pair, pair_plus, pair_at_most}
 use Rattle.count.specs.Counts.{count, counts}
@@ -9,7 +9,6 @@ use Rattle.net.specs.declared.records.record.Record.{Record}
 use Rattle.search_theory.specs.Costs.{Kind}
 use Rattle.search_theory.specs.Entries.{Priced}
 use Rattle.best_plan.specs.Chosen.{chosen}
-use Rattle.search.specs.declared.fault.SearchFault.{SearchFault}
 use Rattle.search_speed.specs.Tables.{table}
 use Rattle.search_speed.specs.Crowd.{Costs, crowd_spare, crowd_price}
 
@@ -24,8 +23,3 @@ count_then_congestion = record {
 -- the plan that the search chooses for these records in the crowd
 abbrev pub plan_in_crowd : ℕ → List Record → Option (Priced Costs (List ℕ))
 plan_in_crowd limit rs = chosen count_then_congestion limit rs (table crowd_spare) (table crowd_price)
-
--- the cost that a search answers; none where it refuses
-abbrev pub cost_answered : Result (Option Costs) SearchFault → Option Costs
-cost_answered (Ok cost) = cost
-cost_answered (Err f) = None

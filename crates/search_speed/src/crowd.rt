@@ -8,19 +8,19 @@ use congestion::Congestion;
 use cost::{Pair, Pricing, Strict};
 use count::Count;
 use shares::SHARE_UNIT;
+use std::array;
 
 pub fn spare_sites() -> [u16; RECORDS]
     ensures { result ≡ table crowd_spare }
 {
-    let mut spare = [0; RECORDS];
-    for k in 0..RECORDS {
-        spare[k] = (k % 5) as u16;
-    }
-    spare
+    array::from_fn(|k| (k % 5) as u16)
 }
 
+// A cost by count and then congestion.
+pub type Costs = Pair<Count, Congestion>;
+
 // The price at this index, with none where no site is spare.
-fn price_at(k: u8) -> Option<Pair<Count, Congestion>>
+fn price_at(k: u8) -> Option<Costs>
     ensures { result ≡ crowd_price k }
 {
     let used = k as u16 % 3;
@@ -28,15 +28,11 @@ fn price_at(k: u8) -> Option<Pair<Count, Congestion>>
     if spare == 0 {
         return None;
     }
-    Some(<Pair<_, _> as Pricing>::price(used + spare, used, SHARE_UNIT))
+    Some(Costs::price(used + spare, used, SHARE_UNIT))
 }
 
-pub fn prices() -> [Option<Pair<Count, Congestion>>; RECORDS]
+pub fn prices() -> [Option<Costs>; RECORDS]
     ensures { result ≡ table crowd_price }
 {
-    let mut prices: [Option<Pair<Count, Congestion>>; RECORDS] = [None; RECORDS];
-    for k in 0..RECORDS {
-        prices[k] = price_at(k as u8);
-    }
-    prices
+    array::from_fn(|k| price_at(k as u8))
 }

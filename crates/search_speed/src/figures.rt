@@ -10,11 +10,7 @@ const NANOSECONDS: u128 = 1_000_000_000;
 pub fn allowed(times: u32) -> Option<u32>
     ensures { result ≡ allowed times }
 {
-    if 1 <= times && times <= MOST {
-        Some(times)
-    } else {
-        None
-    }
+    (1..=MOST).contains(&times).then_some(times)
 }
 
 pub fn per_second(times: u32, nanoseconds: u128) -> u128

@@ -14,7 +14,7 @@ use grid::shape::Grid;
 use net::limit::Limit;
 use net::records::Route;
 use net::records::record::Record;
-use patterns::{Pattern, drawn};
+use patterns::{comb, strip};
 use searches::found;
 use std::time::Instant;
 use std::{env, io};
@@ -23,28 +23,18 @@ use tree::tree;
 // The limits at which the clock is read.
 const LIMITS: [usize; 4] = [4, 8, 12, 16];
 
-// What the arguments ask for.
-enum Request {
-    Plans,
-    Speeds(u32),
-    Unknown,
-}
+// The arguments ask for nothing that is known.
+#[derive(Drop)]
+struct Unknown;
 
-fn asked(rt: &HostRuntime) -> io::Result<Request> {
+// How many searches the arguments ask for; none with no argument.
+fn asked(rt: &HostRuntime) -> io::Result<Result<Option<u32>, Unknown>> {
     let mut words = env::args(rt)?.skip(1);
-    let Some(word) = words.next() else {
-        return Ok(Request::Plans);
-    };
-    if words.next().is_some() {
-        return Ok(Request::Unknown);
-    }
-    match word.parse::<u32>() {
-        Ok(times) => match allowed(times) {
-            Some(times) => Ok(Request::Speeds(times)),
-            None => Ok(Request::Unknown),
-        },
-        Err(_) => Ok(Request::Unknown),
-    }
+    Ok(match (words.next(), words.next()) {
+        (None, _) => Ok(None),
+        (Some(word), None) => word.parse().ok().and_then(allowed).map(Some).ok_or(Unknown),
+        (Some(_), Some(_)) => Err(Unknown),
+    })
 }
 
 // How many plans one search finds at the largest limit.
@@ -52,11 +42,7 @@ fn print_plans(rt: &HostRuntime, name: &str, route: &Route) -> io::Result<()> {
     let Ok(limit) = Limit::new(Limit::LARGEST) else {
         return println!(rt; "{name}: no such limit");
     };
-    let plans = if found(1, limit, route).is_some() {
-        1
-    } else {
-        0
-    };
+    let plans = u8::from(found(1, limit, route).is_some());
     println!(rt; "{name}: {plans} plans")
 }
 
@@ -97,31 +83,28 @@ fn print_net(
     records: &[Record],
     times: Option<u32>,
 ) -> io::Result<()> {
-    match Route::check(grid, records) {
-        Ok(route) => match times {
-            Some(times) => print_speeds(rt, name, &route, times),
-            None => print_plans(rt, name, &route),
-        },
-        Err(_) => println!(rt; "{name}: no route"),
+    let Ok(route) = Route::check(grid, records) else {
+        return println!(rt; "{name}: no route");
+    };
+    match times {
+        Some(times) => print_speeds(rt, name, &route, times),
+        None => print_plans(rt, name, &route),
     }
 }
 
 fn print_nets(rt: &HostRuntime, times: Option<u32>) -> io::Result<()> {
-    match Grid::new(64, 64) {
-        Ok(grid) => {
-            print_net(rt, "strip", grid, &drawn(Pattern::Strip), times)?;
-            print_net(rt, "comb", grid, &drawn(Pattern::Comb), times)?;
-            print_net(rt, "tree", grid, &tree(grid), times)
-        }
-        Err(_) => println!(rt; "no such grid"),
-    }
+    let Ok(grid) = Grid::new(64, 64) else {
+        return println!(rt; "no such grid");
+    };
+    print_net(rt, "strip", grid, &strip(), times)?;
+    print_net(rt, "comb", grid, &comb(), times)?;
+    print_net(rt, "tree", grid, &tree(rt.alloc(), grid)?, times)
 }
 
 fn main(rt: HostRuntime) -> io::Result<()> {
     match asked(&rt)? {
-        Request::Plans => print_nets(&rt, None),
-        Request::Speeds(times) => print_nets(&rt, Some(times)),
-        Request::Unknown => println!(rt;
+        Ok(times) => print_nets(&rt, times),
+        Err(Unknown) => println!(rt;
             "usage: search_speed [SEARCHES], with 1 to 1000000 searches of each net at each limit"
         ),
     }
