@@ -6,15 +6,16 @@ ghost use Rattle.stock.specs.Calls.{question_refusal};
 ghost use Rattle.stock.specs.Faults.{told};
 
 use stock::fault::StockFault;
+use stock::size::MOST_PLACES;
 use stock::stock::Stock;
 
 pub mod as_stock;
 
-// A mark for each of 8,192 places, which is as many as any stock has: closed where it is set.
+// A mark for each of as many places as a stock can have: closed where it is set.
 #[derive(Drop)]
 pub struct Closure<'b, S> {
     below: &'b mut S,
-    marks: [bool; 8192],
+    marks: [bool; MOST_PLACES],
     ghost each: { length marks ≡ 8192 },
 }
 
@@ -27,7 +28,7 @@ impl<'b, S: Stock> Closure<'b, S> {
     {
         Closure {
             below,
-            marks: [false; 8192],
+            marks: [false; MOST_PLACES],
         }
     }
 

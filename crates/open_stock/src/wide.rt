@@ -6,16 +6,16 @@ ghost use Rattle.stock.specs.Making.{size_refusal};
 ghost use Rattle.stock.specs.declared.fault.StockFault.TheVariants.{TooLarge};
 
 use stock::fault::StockFault;
-use stock::size::Size;
+use stock::size::{MOST_PLACES, Size};
 
 pub mod as_stock;
 
-// A use for each of 8,192 places, of which the first ones are the stock's. That each use fits 16 bits stands in the
+// A use for each of as many places as a stock can have, of which the first ones are the stock's. That each use fits 16 bits stands in the
 // type, since what the stock means rests on it.
 #[derive(Drop)]
 pub struct OpenStock {
     size: Size,
-    uses: [u16; 8192],
+    uses: [u16; MOST_PLACES],
     ghost each: { length uses ≡ 8192 },
     ghost small: { (place : ℕ) → slice_index uses place ≤ 65535 },
 }
@@ -29,7 +29,7 @@ impl OpenStock {
         let size = Size::new(places)?;
         Ok(OpenStock {
             size,
-            uses: [0; 8192],
+            uses: [0; MOST_PLACES],
         })
     }
 }

@@ -50,10 +50,7 @@ fn work<S: Stock>(rt: &impl Print, stock: &mut S) -> anyhow::Result<()> {
     print_answer(rt, "take 1 at tile 6", stock.take(6, 1))
 }
 
-// What is refused before a stock stands.
-fn print_refused_makings(rt: &impl Print) -> anyhow::Result<()> {
-    print_answer(rt, "hold back 101 percent", Percent::new(101).map(drop))
-}
+// Each layer is laid inside a function over any stock: in one function the checker covers no layer on a layer whose types it knows ('a type argument holds a `&mut` and a struct that has a ghost field').
 
 // A closure over any stock: the calls, and a tile closed while it is in use.
 fn under_closure<S: Stock>(rt: &impl Print, below: &mut S) -> anyhow::Result<()> {
@@ -91,7 +88,7 @@ fn main(rt: HostRuntime) -> anyhow::Result<()> {
     let columns = grid.columns();
     let tiles = grid.tile_count();
     println!(rt; "{rows} rows, {columns} columns, {tiles} tiles")?;
-    print_refused_makings(&rt)?;
+    print_answer(&rt, "hold back 101 percent", Percent::new(101).map(drop))?;
     day(&rt, &mut table, size, quarter)?;
     println!(rt; "counted again")?;
     print_places(&rt, &Counted::again(&mut table, size))

@@ -6,9 +6,7 @@ ghost use Rattle.stock.specs.Making.{size_refusal};
 ghost use Rattle.stock.specs.declared.fault.StockFault.TheVariants.{TooLarge};
 
 use crate::fault::StockFault;
-use crate::size::Size;
-
-const MOST_PLACES: usize = 8192;
+use crate::size::{MOST_PLACES, Size};
 
 impl Size {
     // Refused above 8,192 places, with the figure.
