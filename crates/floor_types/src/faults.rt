@@ -15,13 +15,13 @@ use stock::fault::StockFault;
 
 // What every call but opening and sealing tests first: the net places at opening, where a table or a stock has another
 // size than then; or the lowest net whose places hold what no call leaves there.
-#[derive(Clone, Copy)]
+#[derive(Clone, Copy, PartialEq, Eq, Debug)]
 pub enum TableFault {
     Sizes(usize),
     Net(usize),
 }
 
-#[derive(Clone, Copy)]
+#[derive(Clone, Copy, PartialEq, Eq, Debug)]
 pub enum OpeningFault {
     Grid(GridFault),
     // The places that the stock has, which are not as many as tiles, or boundaries.
@@ -35,13 +35,13 @@ pub enum OpeningFault {
 }
 
 // No wire could be taken from this index towards its parent.
-#[derive(Clone, Copy)]
+#[derive(Clone, Copy, PartialEq, Eq, Debug)]
 pub struct WireFault {
     pub index: usize,
     pub fault: StockFault,
 }
 
-#[derive(Clone, Copy)]
+#[derive(Clone, Copy, PartialEq, Eq, Debug)]
 pub enum EntryFault {
     Tables(TableFault),
     // All of so many net places are taken.
@@ -50,7 +50,7 @@ pub enum EntryFault {
     Wire(WireFault),
 }
 
-#[derive(Clone, Copy)]
+#[derive(Clone, Copy, PartialEq, Eq, Debug)]
 pub enum PlanningFault {
     Tables(TableFault),
     NoNet(usize),
@@ -61,7 +61,7 @@ pub enum PlanningFault {
     NoPlan(usize),
 }
 
-#[derive(Clone, Copy)]
+#[derive(Clone, Copy, PartialEq, Eq, Debug)]
 pub enum FilingFault {
     Tables(TableFault),
     NoNet(usize),
@@ -69,7 +69,7 @@ pub enum FilingFault {
     Plan(PlanFault),
 }
 
-#[derive(Clone, Copy)]
+#[derive(Clone, Copy, PartialEq, Eq, Debug)]
 pub enum WithdrawalFault {
     Tables(TableFault),
     NoNet(usize),
@@ -77,7 +77,7 @@ pub enum WithdrawalFault {
     Sites(StockFault),
 }
 
-#[derive(Clone, Copy)]
+#[derive(Clone, Copy, PartialEq, Eq, Debug)]
 pub enum QuestionFault {
     Tables(TableFault),
     NoNet(usize),
@@ -86,6 +86,7 @@ pub enum QuestionFault {
     Marks(usize),
 }
 
+// Each `From` is written by hand: one that `thiserror` derives has no contract, and clauses name the fault that `?` makes.
 impl From<GridFault> for OpeningFault {
     ghost from_gives = { λ x r. r ≡ opening_grid x };
 
@@ -170,8 +171,5 @@ impl From<TableFault> for QuestionFault {
 pub fn at_index(answer: Result<(), StockFault>, index: usize) -> Result<(), WireFault>
     ensures { result ≡ with_index index answer }
 {
-    match answer {
-        Ok(()) => Ok(()),
-        Err(fault) => Err(WireFault { index, fault }),
-    }
+    answer.map_err(|fault| WireFault { index, fault })
 }

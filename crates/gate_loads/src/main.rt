@@ -2,9 +2,10 @@
 // drives, and what the check says of the plan, so that a person can follow the length rule by eye.
 #![tactic(auto)]
 
+use anyhow::Context;
 use grid::shape::Grid;
 use hand_plan::check_plan;
-use length_rule::{Gate, PlanFault};
+use length_rule::Gate;
 use net::limit::Limit;
 use net::records::Route;
 use net::records::record::Record;
@@ -12,70 +13,31 @@ use plan::gates::gates_of;
 use plan::lengths;
 use std::io;
 
-fn way(tile: u16, parent: u16) -> Record {
-    Record {
-        tile,
-        parent,
-        sink: false,
-    }
+fn at(tile: u16, parent: u16, sink: bool) -> Record {
+    Record { tile, parent, sink }
 }
 
-fn sink(tile: u16, parent: u16) -> Record {
-    Record {
-        tile,
-        parent,
-        sink: true,
-    }
-}
-
-fn print_gate(
-    rt: &impl Print,
-    kind: &str,
-    index: usize,
-    records: &[Record],
-    gate: Option<Gate>,
-) -> io::Result<()> {
-    if let Some(gate) = gate {
-        if gate.stands < records.len() {
-            let tile = records[gate.stands].tile;
-            let drives = gate.drives;
-            println!(rt; "{index:6} {kind} in tile {tile} drives {drives}")?;
-        }
-    }
-    Ok(())
-}
-
+// A line for each gate of the plan.
 fn print_gates(rt: &impl Print, route: &Route, marks: &[u8]) -> io::Result<()> {
     let records = route.records();
     let hanging = lengths::hanging(route, marks);
-    for index in 0..records.len() {
-        if index < marks.len() && index < 256 {
-            let gates = gates_of(
-                marks[index],
-                records[index].parent as usize,
-                index,
-                hanging[index],
-            );
-            print_gate(rt, "driver", index, records, gates.driver)?;
-            print_gate(rt, "head  ", index, records, gates.head)?;
-            print_gate(rt, "trunk ", index, records, gates.trunk)?;
+    for (index, ((record, mark), hangs)) in records.iter().zip(marks).zip(hanging).enumerate() {
+        let gates = gates_of(*mark, usize::from(record.parent), index, hangs);
+        let kinds = [
+            ("driver", gates.driver),
+            ("head", gates.head),
+            ("trunk", gates.trunk),
+        ];
+        for (kind, gate) in kinds {
+            let Some(Gate { drives, stands }) = gate else {
+                continue;
+            };
+            if let Some(Record { tile, .. }) = records.get(stands) {
+                println!(rt; "{index:6} {kind:6} in tile {tile} drives {drives}")?;
+            }
         }
     }
     Ok(())
-}
-
-fn print_answer(rt: &impl Print, answer: Result<(), PlanFault>) -> io::Result<()> {
-    match answer {
-        Ok(_) => println!(rt; "  legal"),
-        Err(PlanFault::Marks(needed)) => println!(rt; "  refused with 19: {needed} marks needed"),
-        Err(PlanFault::Mark(index)) => println!(rt; "  refused with 20: the mark of index {index}"),
-        Err(PlanFault::Drives(index, length)) => println!(rt;
-            "  refused with 21: a gate of index {index} drives {length}"
-        ),
-        Err(PlanFault::Sites(index)) => println!(rt;
-            "  refused with 22: the tile of index {index} needs more sites"
-        ),
-    }
 }
 
 fn print_plan(
@@ -84,34 +46,44 @@ fn print_plan(
     figure: usize,
     spare: &[u16],
     marks: &[u8],
-) -> io::Result<()> {
+) -> anyhow::Result<()> {
     println!(rt; "limit {figure}, spare sites {spare:?}, marks {marks:?}")?;
     print_gates(rt, route, marks)?;
-    match Limit::new(figure) {
-        Ok(limit) => print_answer(rt, check_plan(limit, route, spare, marks)),
-        Err(_) => println!(rt; "  no such limit"),
-    }
-}
-
-// The route of these records on a grid of these sides, if they are one.
-fn route_on(rows: usize, columns: usize, records: &[Record]) -> Option<Route> {
-    match Grid::new(rows, columns) {
-        Ok(grid) => Route::check(grid, records).ok(),
-        Err(_) => None,
-    }
-}
-
-fn main(rt: HostRuntime) -> io::Result<()> {
-    if let Some(route) = route_on(1, 4, &[way(1, 0), way(2, 0), sink(3, 1), sink(0, 0)]) {
-        println!(rt; "A driver with branches of two tiles and of one")?;
-        print_plan(&rt, &route, 3, &[0; 4], &[0; 4])?;
-        print_plan(&rt, &route, 2, &[0; 4], &[0; 4])?;
-    }
-    if let Some(route) = route_on(3, 3, &[way(3, 0), way(4, 0), sink(1, 1), sink(7, 1)]) {
-        println!(rt; "A driver, a join, and two sinks beside the join")?;
-        print_plan(&rt, &route, 1, &[0, 2, 0, 0], &[0, 0, 1, 1])?;
-        print_plan(&rt, &route, 1, &[0, 1, 0, 0], &[0, 0, 1, 1])?;
-        print_plan(&rt, &route, 2, &[0, 1, 0, 0], &[0, 2, 0, 0])?;
+    let limit = Limit::new(figure).ok().context("no such limit")?;
+    match check_plan(limit, route, spare, marks) {
+        Ok(()) => println!(rt; "  legal")?,
+        Err(fault) => println!(rt; "  refused with {fault}")?,
     }
     Ok(())
+}
+
+// The route of these records on a grid of these sides.
+fn route_on(rows: usize, columns: usize, records: &[Record]) -> anyhow::Result<Route> {
+    let grid = Grid::new(rows, columns).ok().context("no such grid")?;
+    Route::check(grid, records).ok().context("no such route")
+}
+
+fn main(rt: HostRuntime) -> anyhow::Result<()> {
+    let branches = [
+        at(1, 0, false),
+        at(2, 0, false),
+        at(3, 1, true),
+        at(0, 0, true),
+    ];
+    let route = route_on(1, 4, &branches)?;
+    println!(rt; "A driver with branches of two tiles and of one")?;
+    print_plan(&rt, &route, 3, &[0; 4], &[0; 4])?;
+    print_plan(&rt, &route, 2, &[0; 4], &[0; 4])?;
+
+    let join = [
+        at(3, 0, false),
+        at(4, 0, false),
+        at(1, 1, true),
+        at(7, 1, true),
+    ];
+    let route = route_on(3, 3, &join)?;
+    println!(rt; "A driver, a join, and two sinks beside the join")?;
+    print_plan(&rt, &route, 1, &[0, 2, 0, 0], &[0, 0, 1, 1])?;
+    print_plan(&rt, &route, 1, &[0, 1, 0, 0], &[0, 0, 1, 1])?;
+    print_plan(&rt, &route, 2, &[0, 1, 0, 0], &[0, 2, 0, 0])
 }

@@ -6,3 +6,4 @@ pub mod Legal
 pub mod Refusals
 pub mod Costs
 pub mod Local
+pub mod Shown

@@ -4,6 +4,12 @@
 // legal plans, and what a tile needs. It uses nets and their routes.
 #![tactic(auto)]
 
+ghost use Rattle.std.specs.Prelude.{Some};
+ghost use Rattle.length_rule.specs.Shown.{shown};
+
+use std::error::Error;
+use std::fmt;
+
 // A gate of a plan: the length that it drives, and the index in whose tile it stands.
 #[derive(Clone, Copy, PartialEq, Eq, Debug)]
 pub struct Gate {
@@ -28,3 +34,23 @@ pub enum PlanFault {
     Drives(usize, usize),
     Sites(usize),
 }
+
+// The number of the refusal, then its values in words.
+impl fmt::Display for PlanFault {
+    ghost output = { λ fault. Some (shown fault) };
+
+    fn fmt<W: fmt::Write>(&self, f: &mut fmt::Formatter<W>) -> fmt::Result {
+        match self {
+            PlanFault::Marks(needed) => write!(f, "19: {needed} marks needed"),
+            PlanFault::Mark(index) => write!(f, "20: the mark of index {index}"),
+            PlanFault::Drives(index, length) => {
+                write!(f, "21: a gate of index {index} drives {length}")
+            }
+            PlanFault::Sites(index) => {
+                write!(f, "22: the tile of index {index} needs more sites")
+            }
+        }
+    }
+}
+
+impl Error for PlanFault {}

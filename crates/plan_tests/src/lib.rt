@@ -20,10 +20,8 @@ mod tests {
 
     // On a grid of two rows of three tiles.
     fn route_fault(records: &[Record]) -> Option<RouteFault> {
-        match Grid::new(2, 3) {
-            Ok(grid) => Route::check(grid, records).err(),
-            Err(_) => None,
-        }
+        let grid = Grid::new(2, 3).ok()?;
+        Route::check(grid, records).err()
     }
 
     // A driver in tile 0, tile 1, and beyond it the sinks 2 and 4.
@@ -34,10 +32,8 @@ mod tests {
             at(2, 1, true),
             at(4, 1, true),
         ];
-        let route = match Grid::new(2, 3) {
-            Ok(grid) => Route::check(grid, &records).ok()?,
-            Err(_) => return None,
-        };
+        let grid = Grid::new(2, 3).ok()?;
+        let route = Route::check(grid, &records).ok()?;
         let limit = Limit::new(figure).ok()?;
         check_plan(limit, &route, spare, marks).err()
     }
