@@ -25,9 +25,8 @@ pub fn cheaper<P: Cost>(x: P, y: P) -> P
 pub fn bill<P: Cost>(cells: &[P::Cell]) -> P
     ensures { result ≡ sum_of P.Cost.nothing P.Cost.plus P.Cost.held cells.now }
 {
-    let mut sum = P::nothing();
-    for cell in cells {
-        sum = sum.plus(P::from_cell(*cell));
-    }
-    sum
+    cells
+        .iter()
+        .map(|cell| P::from_cell(*cell))
+        .fold(P::nothing(), |sum, cost| sum.plus(cost))
 }

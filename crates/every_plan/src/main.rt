@@ -1,7 +1,7 @@
 // Searches some hundred small nets in several kinds of cost and compares each answer with trying every plan there is. It
 // says how many answers were compared and how many differed. Its contracts say what the plan of each code, the cheapest
 // of them all, each verdict and the whole tally are; nothing is promised of what is printed. It uses the search, the check
-// of a plan made by hand, the cost of a plan and the kinds of cost.
+// of a plan made by hand, the cost of a plan, the kinds of cost and the generic choice of the cheaper of two costs.
 #![tactic(auto)]
 
 mod comparing;
@@ -26,7 +26,7 @@ const CELLS: usize = (RECORDS + 10) * (LIMITS + 1);
 
 // What one kind of cost gives.
 fn print_kind<P: Pricing>(rt: &HostRuntime, kind: &str, grid: Grid) -> io::Result<()> {
-    // Vectors, since no array of a type parameter is known to fit in memory.
+    // Vectors, since of an array of a type parameter it stays open that it has fewer than 2^63 bytes.
     let mut prices: Vec<Option<P>> = vec![in rt.alloc(); None; RECORDS]?;
     let mut cells: Vec<Option<Entry<P::Cell>>> = vec![in rt.alloc(); None; CELLS]?;
     let Tally {

@@ -18,7 +18,7 @@ use search_cells::Entry;
 pub(crate) const LIMITS: usize = 4;
 
 // How many answers were compared, how many were plans, and how many differed.
-#[derive(Clone, Copy)]
+#[derive(Clone, Copy, Default)]
 pub(crate) struct Tally {
     pub(crate) compared: usize,
     pub(crate) plans: usize,
@@ -42,6 +42,7 @@ impl Tally {
 fn on_route<P: Cost>(case: &Case<P>, cells: &mut [Option<Entry<P::Cell>>], before: Tally) -> Tally
     ensures { result ≡ on_route (kind_of P.Cost) (length cells.old) (net_of case.now) before }
 {
+    // A loop and no fold, here and below: of cells that a closure writes no proof knows how many they are.
     let mut tally = before;
     for figure in 1..=LIMITS {
         tally = tally.counted(case.compared(figure, cells));
@@ -103,11 +104,7 @@ pub(crate) fn tried<P: Pricing>(
     ensures tally { result ≡ tried P.Cost P.Pricing.priced (length prices.old) (length cells.old) grid (map (λ s. s.now) shapes.now) crowds.now }
     ensures prices { prices.new ≡ prices_after P.Cost P.Pricing.priced prices.old crowds.now }
 {
-    let mut tally = Tally {
-        compared: 0,
-        plans: 0,
-        different: 0,
-    };
+    let mut tally = Tally::default();
     for crowd in crowds {
         tally = in_crowd(*crowd, grid, shapes, prices, cells, tally);
     }

@@ -1,4 +1,4 @@
-// The states. The calls stand in the modules below, which see the fields.
+// A floorplan and its states. The calls stand in the modules below, which see the fields.
 ghost use Rattle.std.specs.Prelude.{◌≤◌};
 ghost use Rattle.runs.specs.Refusals.{most_net_places};
 
@@ -6,23 +6,21 @@ use grid::shape::Grid;
 
 mod sealing;
 
-// A floorplan being entered: its grid, the net places at opening, and how many nets were entered.
+// The state of a floorplan that nets are entered into.
 #[derive(Drop)]
-pub struct Entering {
-    grid: Grid,
-    places: usize,
-    entered: usize,
-    ghost some_places: { 1 ≤ places },
-    ghost places_fit: { places ≤ most_net_places },
-    ghost listed: { entered ≤ places },
-}
+pub struct Entering;
 
-// A sealed floorplan: the same numbers.
+// The state of a floorplan that is planned.
 #[derive(Drop)]
-pub struct Sealed {
+pub struct Sealed;
+
+// A floorplan in the state S: its grid, the net places at opening, and how many nets were entered.
+#[derive(Drop)]
+pub struct Floorplan<S> {
     grid: Grid,
     places: usize,
     entered: usize,
+    state: S,
     ghost some_places: { 1 ≤ places },
     ghost places_fit: { places ≤ most_net_places },
     ghost listed: { entered ≤ places },

@@ -1,14 +1,15 @@
 -- The cheapest plan of the worked strip: the search finds the cost, and what it finds is cheapest.
-use Rattle.std.proofs.Common.{◌≡◌, ℕ, zero, suc, ◌<◌, List, [], ◌∷◌, Some, None, Option, refl, subst, inl, inr, add_assoc, add_comm, zero-add, arith, lit≤}
+use Rattle.std.proofs.Common.{◌≡◌, ℕ, List, [], ◌∷◌, Some, None, Option, refl, subst, inl, inr, add_assoc, add_comm, zero-add, arith}
 use Rattle.std.proofs.lemmas.Bool.Decides.{nat_tests, leb_tells}
+use Rattle.net.specs.Proper.{Proper}
 use Rattle.net.specs.declared.records.record.Record.{Record}
-use Rattle.net.specs.Routes.{parent_of}
+use Rattle.net.proofs.Properly.{proper_if}
 use Rattle.search_theory.specs.Costs.{Lawful}
 use Rattle.search_theory.specs.Entries.{Priced}
 use Rattle.best_plan.specs.Chosen.{chosen}
 use Rattle.best_plan.specs.Cheapest.{Cheapest, AnswersBest}
 use Rattle.best_plan.proofs.Legals.{chosen_best}
-use Rattle.worked.specs.Examples.{sums, path}
+use Rattle.worked.specs.Examples.{sums, long_strip, path}
 
 pub sums_lawful : Lawful sums
 sums_lawful = record {
@@ -30,16 +31,8 @@ found_cheapest : (limit : ℕ) (rs : List Record) (spare : List ℕ) (prices : L
 found_cheapest limit rs spare prices n None h e = absurd e
 found_cheapest limit rs spare prices n (Some a) h e = (a.what, subst (λ c. Cheapest sums limit rs spare prices c a.what) e h)
 
-path_hangs : (i : ℕ) → 0 < i → i < 8 → parent_of path i < i
-path_hangs zero h l = absurd (omega arith)
-path_hangs (suc zero) h l = omega arith
-path_hangs (suc (suc zero)) h l = omega arith
-path_hangs (suc (suc (suc zero))) h l = omega arith
-path_hangs (suc (suc (suc (suc zero)))) h l = omega arith
-path_hangs (suc (suc (suc (suc (suc zero))))) h l = omega arith
-path_hangs (suc (suc (suc (suc (suc (suc zero)))))) h l = omega arith
-path_hangs (suc (suc (suc (suc (suc (suc (suc zero))))))) h l = omega arith
-path_hangs (suc (suc (suc (suc (suc (suc (suc (suc i)))))))) h l = absurd (omega arith)
+pub path_proper : Proper long_strip path
+path_proper = proper_if long_strip path refl
 
 abbrev spares : List ℕ
 spares = 0 ∷ 1 ∷ 1 ∷ 1 ∷ 0 ∷ 1 ∷ 0 ∷ 0 ∷ []
@@ -50,4 +43,4 @@ offers = None ∷ Some 1300 ∷ Some 8600 ∷ Some 500 ∷ None ∷ Some 1000 �
 pub path_cheapest : (marks : List ℕ) × Cheapest sums 3 path spares offers 1500 marks
 path_cheapest =
     found_cheapest 3 path spares offers 1500 (chosen sums 3 path spares offers)
-    (chosen_best sums_lawful 3 path spares offers (record { some = lit≤ tt; earlier = path_hangs })) refl
+    (chosen_best sums_lawful 3 path spares offers (record { some = path_proper.some; earlier = path_proper.earlier })) refl

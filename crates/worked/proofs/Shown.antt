@@ -9,8 +9,8 @@ use Rattle.length_rule.specs.Legal.{Legal}
 use Rattle.length_rule.specs.Marks.{mark_at}
 use Rattle.length_rule.specs.Refusals.{plan_fault}
 use Rattle.length_rule.proofs.Accepts.{legal_if, none_if}
-use Rattle.worked.specs.Examples.{Holds, examples, branches, join, long_strip, path, strip, square}
-use Rattle.worked.proofs.CheapestStrip.{path_cheapest}
+use Rattle.worked.specs.Examples.{Holds, examples, branches, join, strip, square}
+use Rattle.worked.proofs.CheapestStrip.{path_proper, path_cheapest}
 
 -- what the check refuses is not legal
 refused : (limit : ℕ) (rs : List Record) (spare ms : List ℕ) → 1 ≤ length rs → nothing_wrong (plan_fault limit rs spare ms) ≡ false → Legal limit rs spare ms → ⊥
@@ -72,4 +72,4 @@ plans = (
 )
 
 pub shown : AllByRecursion Holds examples
-shown = (refl, (refl, (refl, (refl, ((proper_if long_strip path refl, path_cheapest), plans)))))
+shown = (refl, (refl, (refl, (refl, ((path_proper, path_cheapest), plans)))))

@@ -8,19 +8,19 @@ ghost use Rattle.runs.specs.Histories.{History};
 ghost use Rattle.runs.specs.Runs.{Run};
 ghost use Rattle.floorplan.specs.States.{entering_world, sealed_world};
 
-use crate::states::{Entering, Sealed};
+use crate::states::{Entering, Floorplan, Sealed};
 
-impl Entering {
+impl Floorplan<Entering> {
     // Takes the floorplan over and refuses nothing, whatever the stocks and tables then hold.
-    fn seal(self) -> Sealed
+    fn seal(self) -> Floorplan<Sealed>
         ensures call { (sites wires : Meaning) (nets : List NetPlace) (records : List RecordPlace) → Seals (entering_world self sites wires nets records) (sealed_world result sites wires nets records) }
         ensures goes_on { (sites wires : Meaning) (nets : List NetPlace) (records : List RecordPlace) (h : History) → Run (entering_world self sites wires nets records) h → Run (sealed_world result sites wires nets records) h }
     {
-        let entered = self.entered;
-        Sealed {
+        Floorplan {
             grid: self.grid,
             places: self.places,
-            entered,
+            entered: self.entered,
+            state: Sealed,
         }
     }
 }

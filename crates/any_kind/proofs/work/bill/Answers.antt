@@ -1,10 +1,14 @@
-use Rattle.any_kind.proofs.Sums.{one_more, none_left}
+use Rattle.std.proofs.Common.{map, fold, ap, ◌∙◌, rules}
+use Rattle.std.proofs.lemmas.Iterator.{YieldsList-from_slice, YieldsList-from_map}
+use Rattle.std.proofs.lemmas.Iterator.Consumers.{fold_from_yields_List}
+use Rattle.any_kind.proofs.Sums.{bill_from_nothing}
 use Rattle.any_kind.proofs.work.bill.Goals as goal
-
-pub loop-cell-preserved : goal.loop-cell-preserved
-loop-cell-preserved g c =
-    one_more g.met.P.Cost.lawful g.P.Cost.held c.args.cells.now c.loop-cell.cell-index c.loop-cell.sum _ c.cell-item.result c.from_cell.result c.plus-sum.result c.loop-cell-test.true c.cell-item.is c.from_cell.ensures c.plus-sum.ensures c.loop-cell.invariant
 
 pub returns : goal.returns
 returns g c =
-    none_left g.met.P.Cost.lawful g.P.Cost.held c.args.cells.now c.loop-cell.cell-index c.loop-cell.sum _ c.loop-cell-test.false c.loop-cell.invariant
+    let m = g.P.Cost in
+    let cells = c.args.cells.now in
+    fold_from_yields_List _ m.plus c.nothing.result c.fold.result c.fold.ensures.ran
+    (YieldsList-from_map _ m.held (YieldsList-from_slice cells cc) c.map.ensures.closure (λ x r q k. search rules))
+    (λ a x b q k. search rules)
+    ∙ (ap (λ a. fold m.plus a (map m.held cells)) c.nothing.ensures ∙ bill_from_nothing g.met.P.Cost.lawful m.held cells)
