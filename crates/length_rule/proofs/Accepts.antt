@@ -1,11 +1,11 @@
 -- The refusals of a plan leave exactly the legal plans.
-use Rattle.std.proofs.Common.{◌≡◌, ℕ, ◌<◌, ◌≤◌, Bool, cond, eqb, leb, List, [], ◌∷◌, length, is_ok, None, Some, Ok, Err, Decides, Option, Result, sym, refl, ap, ◌∙◌, subst, ⊎_elim, arith}
+use Rattle.std.proofs.Common.{◌≡◌, ℕ, ◌<◌, ◌≤◌, Bool, cond, eqb, leb, List, [], ◌∷◌, length, is_ok, None, Some, Ok, Err, Decides, Result, sym, refl, ap, ◌∙◌, subst, ⊎_elim, arith}
 use Rattle.std.specs.List.{AllByRecursion}
 use Rattle.std.proofs.lemmas.Bool.{leb-true, le-leb, eqb-true, eq-eqb, ne_eqb, cases_eq}
 use Rattle.std.proofs.lemmas.Bool.Decides.{nat_tests}
 use Rattle.net.specs.declared.records.record.Record.{Record}
-use Rattle.net.specs.Lowest.{or_else, lowest, unless, nothing_wrong, fault_of}
-use Rattle.net.proofs.Firsts.{or_else_none, unless_none, unless_clear, nothing_none, lowest_none, lowest_clear}
+use Rattle.net.specs.Lowest.{lowest, unless, nothing_wrong, fault_of}
+use Rattle.net.proofs.Firsts.{or_else_none, both_none, unless_none, unless_clear, nothing_none, lowest_none, lowest_clear}
 use Rattle.length_rule.specs.declared.PlanFault.{PlanFault}
 use Rattle.length_rule.specs.declared.PlanFault.TheVariants.{Marks, Mark, Drives, Sites}
 use Rattle.length_rule.specs.declared.Gate.{Gate}
@@ -13,9 +13,6 @@ use Rattle.length_rule.specs.Gates.{gates_at, need}
 use Rattle.length_rule.specs.Legal.{spare_at, Legal}
 use Rattle.length_rule.specs.Marks.{mark_at}
 use Rattle.length_rule.specs.Refusals.{mark_fault, over_limit, gate_fault, site_fault, plan_fault}
-
-both_none : {F : Type 0} (a b : Option F) → a ≡ None → b ≡ None → or_else a b ≡ None
-both_none a b e f = ap (λ (o : Option _). or_else o b) e ∙ f
 
 within : (limit i : ℕ) (gs : List Gate) → over_limit limit i gs ≡ None → AllByRecursion (λ g. g.drives ≤ limit) gs
 within limit i [] e = tt

@@ -17,9 +17,9 @@ tile_below g t h = omega (arith, mul-le g.rows g.columns 64 64 g.rows_fit g.colu
 
 last_test : {F : Type 0} (a b c d : Bool) (w x y z : F) → a ≡ true → b ≡ true → c ≡ true → or_else (unless a w) (or_else (unless b x) (or_else (unless c y) (unless (not d) z))) ≡ unless (not d) z
 last_test true true true d w x y z e f g = refl
-last_test true true false d w x y z e f g = let o : ◌≡◌ {A = ℕ} 0 1 = cc in absurd (omega arith)
-last_test true false c d w x y z e f g = let o : ◌≡◌ {A = ℕ} 0 1 = cc in absurd (omega arith)
-last_test false b c d w x y z e f g = let o : ◌≡◌ {A = ℕ} 0 1 = cc in absurd (omega arith)
+last_test true true false d w x y z e f g = cc
+last_test true false c d w x y z e f g = cc
+last_test false b c d w x y z e f g = cc
 
 -- a record that passes the first three tests is wrong if its tile stands earlier
 pub fourth_test : (g : Grid) (rs : List Record) (i : ℕ) (b : Bool) → has_tile g (tile_of rs i) ≡ true → parent_fits (parent_of rs i) i ≡ true → beside_parent g rs i ≡ true → stands_earlier rs i ≡ b → unless (not b) (Repeated i) ≡ record_fault g rs i

@@ -3,23 +3,23 @@ use Rattle.std.proofs.Common.{◌≡◌, ℕ, zero, suc, ◌+◌, ◌<◌, Bool,
 use Rattle.std.proofs.lemmas.Bool.{cases_eq}
 use Rattle.net.specs.Lowest.{or_else, lowest, unless, some_below, nothing_wrong}
 
-no_some : {F : Type 0} (x : F) → Some x ≡ None → ⊥
-no_some x e = let z : ◌≡◌ {A = ℕ} 0 1 = cc in omega arith
-
 pub or_else_none : {F : Type 0} (a b : Option F) → or_else a b ≡ None → (a ≡ None) × (b ≡ None)
-or_else_none (Some x) b e = absurd (no_some x e)
+or_else_none (Some x) b e = cc
 or_else_none None b e = (refl, e)
+
+pub both_none : {F : Type 0} (a b : Option F) → a ≡ None → b ≡ None → or_else a b ≡ None
+both_none a b e f = ap (λ (o : Option _). or_else o b) e ∙ f
 
 pub unless_none : {F : Type 0} (b : Bool) (f : F) → unless b f ≡ None → b ≡ true
 unless_none true f e = refl
-unless_none false f e = absurd (no_some f e)
+unless_none false f e = cc
 
 pub unless_clear : {F : Type 0} (b : Bool) (f : F) → b ≡ true → unless b f ≡ None
 unless_clear b f e = ap (λ (x : Bool). cond x None (Some f)) e
 
 pub nothing_none : {F : Type 0} (o : Option F) → nothing_wrong o ≡ true → o ≡ None
 nothing_none None e = refl
-nothing_none (Some f) e = let z : ◌≡◌ {A = ℕ} 0 1 = cc in absurd (omega arith)
+nothing_none (Some f) e = cc
 
 module _ {F : Type 0} (f : ℕ → Option F) where
   pub lowest_none : (n : ℕ) → lowest f n ≡ None → (i : ℕ) → i < n → f i ≡ None
@@ -62,11 +62,11 @@ module _ (q : ℕ → Bool) where
       or_left_false false b e = refl
 
       or_right_false : (a b : Bool) → (a || b) ≡ false → b ≡ false
-      or_right_false true b e = let z : ◌≡◌ {A = ℕ} 0 1 = cc in absurd (omega arith)
+      or_right_false true b e = cc
       or_right_false false b e = e
 
   pub some_below_found : (n : ℕ) → some_below q n ≡ true → (i : ℕ) × (i < n) × (q i ≡ true)
-  some_below_found zero e = let z : ◌≡◌ {A = ℕ} 0 1 = cc in absurd (omega arith)
+  some_below_found zero e = cc
   some_below_found (suc n) e = go (some_below q n) refl e (λ x. some_below_found n x)
     where
       go : (b : Bool) → some_below q n ≡ b → (b || q n) ≡ true → (some_below q n ≡ true → (i : ℕ) × (i < n) × (q i ≡ true)) → (i : ℕ) × (i < suc n) × (q i ≡ true)

@@ -1,5 +1,5 @@
 -- The check refuses nothing exactly where the records are a route.
-use Rattle.std.proofs.Common.{◌≡◌, ℕ, zero, suc, ◌<◌, ◌≤◌, Bool, true, false, not, ◌||◌, eqb, leb, List, length, is_ok, None, Ok, Err, Decides, Option, Result, sym, refl, ap, ◌∙◌, subst, ⊎_elim, arith}
+use Rattle.std.proofs.Common.{◌≡◌, ℕ, zero, suc, ◌<◌, ◌≤◌, Bool, true, false, not, ◌||◌, eqb, leb, List, length, is_ok, None, Ok, Err, Decides, Result, sym, refl, ap, ◌∙◌, subst, ⊎_elim, arith}
 use Rattle.std.proofs.lemmas.Bool.{and_parts, and_from, or_cases, or_left, or_right, leb-true, le-leb, eqb-true, eqb-false, eq-eqb, ne_eqb, not-true, not_from_false, cases_eq}
 use Rattle.std.proofs.lemmas.Bool.Decides.{nat_tests}
 use Rattle.grid.specs.declared.shape.Grid.{Grid}
@@ -10,10 +10,10 @@ use Rattle.net.specs.declared.records.record.Record.{Record}
 use Rattle.net.specs.declared.records.record.RouteFault.{RouteFault}
 use Rattle.net.specs.declared.records.record.RouteFault.TheVariants.{Count, OffGrid, Parent, Apart, Repeated, Useless}
 use Rattle.net.specs.Checked.{records_of}
-use Rattle.net.specs.Lowest.{or_else, lowest, unless, some_below, nothing_wrong, fault_of}
+use Rattle.net.specs.Lowest.{lowest, unless, some_below, nothing_wrong, fault_of}
 use Rattle.net.specs.Proper.{Proper}
 use Rattle.net.specs.Routes.{most_records, tile_of, parent_of, sink_at, is_child, has_child, parent_fits, beside_parent, stands_earlier, record_fault, end_fault, right_count, route_fault, is_route}
-use Rattle.net.proofs.Firsts.{or_else_none, unless_none, unless_clear, nothing_none, lowest_none, lowest_clear, some_below_none, some_below_found}
+use Rattle.net.proofs.Firsts.{or_else_none, both_none, unless_none, unless_clear, nothing_none, lowest_none, lowest_clear, some_below_none, some_below_found}
 
 -- the four tests of a record
 record Passes (g : Grid) (rs : List Record) (i : ℕ) : Type 0 where
@@ -33,9 +33,6 @@ passes g rs i e =
       side = unless_none (beside_parent g rs i) (Apart i) c.0;
       alone = not-true (stands_earlier rs i) (unless_none (not (stands_earlier rs i)) (Repeated i) c.1);
     }
-
-both_none : {F : Type 0} (a b : Option F) → a ≡ None → b ≡ None → or_else a b ≡ None
-both_none a b e f = ap (λ (o : Option _). or_else o b) e ∙ f
 
 passed : (g : Grid) (rs : List Record) (i : ℕ) → Passes g rs i → record_fault g rs i ≡ None
 passed g rs i p =

@@ -42,7 +42,7 @@ pub fn hanging(route: &Route, marks: &[u8]) -> [u16; 256]
     ensures rule { LengthsAreTheRule (records_of route.now) marks.now }
 {
     let mut lengths = [0; 256];
-    // An index counted down: the walk goes from the end, and writes at the parent's index.
+    // Over indices and not records: the walk goes from the end, and writes at the parent's index.
     for index in (1..route.records().len()).rev() {
         pass_up(route, marks, index, &mut lengths);
     }

@@ -1,4 +1,4 @@
-// What a mark means: 1 a head buffer, 2 a trunk buffer, 3 both, 0 neither.
+// What a mark means: 1 a head buffer, 2 a trunk buffer, 3 both, 0 neither. Marks are bytes, as hosts lend them.
 ghost use Rattle.std.specs.Prelude.{◌≡◌};
 ghost use Rattle.length_rule.specs.Marks.{mark_at, has_head, has_trunk};
 

@@ -17,6 +17,7 @@ pub fn needs(route: &Route, marks: &[u8]) -> [u16; 256]
     let mut needs = [0; 256];
     for (index, record) in route.records().iter().enumerate() {
         let mark = mark_at(marks, index);
+        // A head buffer stands in the parent's tile, a trunk buffer in the index's own.
         needs[usize::from(record.parent)] += u16::from(has_head(mark));
         needs[index] += u16::from(has_trunk(mark));
     }

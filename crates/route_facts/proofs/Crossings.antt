@@ -30,8 +30,7 @@ module _ (g : Grid) (rs : List Record) (p : Proper g rs) where
       omega (arith, parent_in i (ltb-true 0 i both.0) (ltb-true i (length rs) both.1)))
       (λ (t : (ltb 0 i && ltb i (length rs)) ≡ false).
       let none : parent_told rs i ≡ None = cond-false (ltb 0 i && ltb i (length rs)) (Some (parent_of rs i)) None t in
-      let z : ◌≡◌ {A = ℕ} 0 1 = cc in
-      absurd (omega arith))
+      cc)
       (cases_Bool (ltb 0 i && ltb i (length rs)))
 
   pub crosses_each : CrossesEach g rs
@@ -51,8 +50,7 @@ module _ (g : Grid) (rs : List Record) (p : Proper g rs) where
       (ltb-true 0 i both.0, ltb-true i (length rs) both.1, sym (cond-true (ltb 0 i && ltb i (length rs)) (boundary_between g (tile_of rs i) (tile_of rs (parent_of rs i))) None t) ∙ e))
       (λ (t : (ltb 0 i && ltb i (length rs)) ≡ false).
       let none : crossing g rs i ≡ None = cond-false (ltb 0 i && ltb i (length rs)) (boundary_between g (tile_of rs i) (tile_of rs (parent_of rs i))) None t in
-      let z : ◌≡◌ {A = ℕ} 0 1 = cc in
-      absurd (omega arith))
+      cc)
       (cases_Bool (ltb 0 i && ltb i (length rs)))
 
   pub crossings_apart : CrossingsApart g rs
