@@ -42,7 +42,7 @@ impl Tally {
 fn on_route<P: Cost>(case: &Case<P>, cells: &mut [Option<Entry<P::Cell>>], before: Tally) -> Tally
     ensures { result ≡ on_route (kind_of P.Cost) (length cells.old) (net_of case.now) before }
 {
-    // A loop and no fold, here and below: of cells that a closure writes no proof knows how many they are.
+    // A loop, here and below: of a fold whose closure writes the cells the goal `returns` stays open.
     let mut tally = before;
     for figure in 1..=LIMITS {
         tally = tally.counted(case.compared(figure, cells));

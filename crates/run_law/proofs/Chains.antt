@@ -189,7 +189,7 @@ sealed_kept w h s = record {
 -- an accepted answer refuses nothing
 ok_none : {A F : Type 0} (a b : A) (o : Option F) → Ok a ≡ refused_or b o → o ≡ None
 ok_none a b None e = refl
-ok_none a b (Some f) e = let z : ◌≡◌ {A = ℕ} 0 1 = cc in absurd (omega arith)
+ok_none a b (Some f) e = absurd cc
 
 enter_kept : (w w' : World) (h : History) (limit : Limit) (rs : List Record) (r : Result ℕ EntryFault) → Kept w h → Enters w limit rs r w' → Kept w' (after_entering (fault_of r) h limit rs)
 enter_kept w w' h limit rs (Ok n) s c =

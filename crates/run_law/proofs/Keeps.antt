@@ -32,7 +32,7 @@ pub record Kept (w : World) (h : History) : Type 0 where
   pub book : BookTrue w h
 
 pub none_some : {X : Type 0} (o : Option X) (x : X) → o ≡ None → o ≡ Some x → ⊥
-none_some o x p q = let z : ◌≡◌ {A = ℕ} 0 1 = cc in omega arith
+none_some o x p q = cc
 
 -- a filed plan or none
 which_filed : {X : Type 0} (o : Option X) → (o ≡ None) ⊎ ((x : X) × (o ≡ Some x))

@@ -63,5 +63,5 @@ wires_fit w rs b m e =
     go found.0 found.1 (crossed_at w.grid rs found.0) refl found.2
   where
     go : (i : ℕ) → i < length rs → (c : Option ℕ) → crossed_at w.grid rs i ≡ c → is_there c b ≡ true → used w.wires b + 1 ≤ capacity w.wires b
-    go i l None x y = let z : ◌≡◌ {A = ℕ} 0 1 = cc in absurd (omega arith)
+    go i l None x y = absurd cc
     go i l (Some c) x y = m.wire_left i b l (x ∙ ap Some (eqb-true c b y))

@@ -59,7 +59,7 @@ module _ {C : Type 0} (o : Prices C) (choose : Choice C) where
     where
       inside : {X E : Type 0} {x y : X} → ◌≡◌ {A = Result X E} (Ok x) (Ok y) → x ≡ y
       inside z = cc
-  cheapest_kept w k cells (Err f) w' few p cost e = let z : ◌≡◌ {A = ℕ} 0 1 = cc in absurd (omega arith)
+  cheapest_kept w k cells (Err f) w' few p cost e = absurd cc
 
   refused_exactly : (w : World) (k cells : ℕ) (r : Result C PlanningFault) (w' : World) → PlansBy o choose w k cells r w' → Untouched w → Waits w k → cells_needed w k ≤ cells → ((is_ok r ≡ false) ↔ NoPlanFor w k)
   refused_exactly w k cells (Ok cost) w' p u q e = (λ x. absurd (both_ways true x refl), λ none. absurd (none p.1.0 p.1.2.legal))

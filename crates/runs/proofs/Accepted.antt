@@ -47,7 +47,7 @@ both_none a b e f = ap (λ (o : Option _). or_else o b) e ∙ f
 
 carried_none : {F G : Type 0} (inside : F → G) (o : Option F) → carried inside o ≡ None → o ≡ None
 carried_none inside None e = refl
-carried_none inside (Some f) e = let z : ◌≡◌ {A = ℕ} 0 1 = cc in absurd (omega arith)
+carried_none inside (Some f) e = absurd cc
 
 carried_clear : {F G : Type 0} (inside : F → G) (o : Option F) → o ≡ None → carried inside o ≡ None
 carried_clear inside o e = ap (carried inside) e
@@ -192,8 +192,8 @@ taken_if m b i e = go (exists m b) (fits m b 1) refl e
   where
     go : (x y : Bool) → fits m b 1 ≡ y → carried Entry.Wire (fault_of (with_index {A = Unit {0}} i (cond x (cond y (Ok tt) (Err (Full b))) (Err (NoPlace b))))) ≡ None → used m b + 1 ≤ capacity m b
     go true true f z = leb-true (used m b + 1) (capacity m b) f
-    go true false f z = let o : ◌≡◌ {A = ℕ} 0 1 = cc in absurd (omega arith)
-    go false y f z = let o : ◌≡◌ {A = ℕ} 0 1 = cc in absurd (omega arith)
+    go true false f z = absurd cc
+    go false y f z = absurd cc
 
 takes : (m : Meaning) (b i : ℕ) → b < count m → used m b + 1 ≤ capacity m b → wire_fault m i (Some b) ≡ None
 takes m b i l h =
@@ -205,8 +205,8 @@ given_if m t n e = go (exists m t) (covers m t n) refl e
   where
     go : (x y : Bool) → covers m t n ≡ y → fault_of {A = Unit {0}} (cond x (cond y (Ok tt) (Err (Lacking t))) (Err (NoPlace t))) ≡ None → n ≤ used m t
     go true true f z = leb-true n (used m t) f
-    go true false f z = let o : ◌≡◌ {A = ℕ} 0 1 = cc in absurd (omega arith)
-    go false y f z = let o : ◌≡◌ {A = ℕ} 0 1 = cc in absurd (omega arith)
+    go true false f z = absurd cc
+    go false y f z = absurd cc
 
 gives : (m : Meaning) (t n : ℕ) → t < count m → n ≤ used m t → fault_of (give_answer m t n) ≡ None
 gives m t n l h =
@@ -219,7 +219,7 @@ crossed_counted g rs i b e = go (ltb 0 i) e
   where
     go : (x : Bool) → cond x (boundary_between g (tile_of rs i) (tile_of rs (parent_of rs i))) None ≡ Some b → b < boundary_count g
     go true h = counted g (tile_of rs i) (tile_of rs (parent_of rs i)) b h
-    go false h = let o : ◌≡◌ {A = ℕ} 0 1 = cc in absurd (omega arith)
+    go false h = absurd cc
 
 module _ (w : World) (rs : List Record) where
   abbrev wire_at : ℕ → Option EntryFault
@@ -344,18 +344,18 @@ or_else_some (Some y) b x e = inl e
 or_else_some None b x e = inr (refl, e)
 
 lowest_at : {F : Type 0} (f : ℕ → Option F) (n : ℕ) (x : F) → lowest f n ≡ Some x → (i : ℕ) × (i < n) × (f i ≡ Some x)
-lowest_at f zero x e = let o : ◌≡◌ {A = ℕ} 0 1 = cc in absurd (omega arith)
+lowest_at f zero x e = absurd cc
 lowest_at f (suc n) x e =
     ⊎_elim (λ (a : lowest f n ≡ Some x). let found = lowest_at f n x a in (found.0, omega (arith, found.1), found.2))
     (λ (b : (lowest f n ≡ None) × (f n ≡ Some x)). (n, omega arith, b.1))
     (or_else_some (lowest f n) (f n) x e)
 
 unless_some : {F : Type 0} (b : Bool) (f x : F) → unless b f ≡ Some x → f ≡ x
-unless_some true f x e = let o : ◌≡◌ {A = ℕ} 0 1 = cc in absurd (omega arith)
+unless_some true f x e = absurd cc
 unless_some false f x e = cc
 
 carried_some : {F G : Type 0} (inside : F → G) (o : Option F) (x : G) → carried inside o ≡ Some x → (f : F) × (o ≡ Some f) × (inside f ≡ x)
-carried_some inside None x e = let o : ◌≡◌ {A = ℕ} 0 1 = cc in absurd (omega arith)
+carried_some inside None x e = absurd cc
 carried_some inside (Some f) x e = (f, refl, same e)
   where
     same : Some (inside f) ≡ Some x → inside f ≡ x
@@ -369,7 +369,7 @@ full_only m i b f l e = go (exists m b) (fits m b 1) (lt-ltb b (count m) l) e
     told p = (sym (ap (λ (x : WireFault). x.index) p), sym (ap (λ (x : WireFault). x.fault) p))
 
     go : (x y : Bool) → x ≡ true → carried Entry.Wire (fault_of (with_index {A = Unit {0}} i (cond x (cond y (Ok tt) (Err (Full b))) (Err (NoPlace b))))) ≡ Some (Entry.Wire f) → (f.index ≡ i) × (f.fault ≡ Full b)
-    go true true h z = let o : ◌≡◌ {A = ℕ} 0 1 = cc in absurd (omega arith)
+    go true true h z = absurd cc
     go true false h z = told cc
     go false y h z = absurd (both_ways false refl h)
 
@@ -378,7 +378,7 @@ module _ (w : World) (rs : List Record) (f : WireFault) where
   FullBoundary = (b : ℕ) × (crossed_at w.grid rs f.index ≡ Some b) × (f.fault ≡ Full b)
 
   at_index : (i : ℕ) (c : Option ℕ) → crossed_at w.grid rs i ≡ c → TablesSound w → wire_fault w.wires i c ≡ Some (Entry.Wire f) → FullBoundary
-  at_index i None d t z = let o : ◌≡◌ {A = ℕ} 0 1 = cc in absurd (omega arith)
+  at_index i None d t z = absurd cc
   at_index i (Some b) d t z =
       let is = full_only w.wires i b f (omega (arith, crossed_counted w.grid rs i b d, t.sizes.wires)) z in
       (b, subst (λ (j : ℕ). crossed_at w.grid rs j ≡ Some b) (sym is.0) d, is.1)
@@ -390,15 +390,15 @@ module _ (w : World) (rs : List Record) (f : WireFault) where
   rest = or_else (carried Entry.Route (route_fault w.grid rs)) (lowest (wire_at w rs) (length rs))
 
   third : TablesSound w → (carried Entry.Route (route_fault w.grid rs) ≡ Some (Entry.Wire f)) ⊎ ((carried Entry.Route (route_fault w.grid rs) ≡ None) × (lowest (wire_at w rs) (length rs) ≡ Some (Entry.Wire f))) → FullBoundary
-  third t (inl a) = let c = carried_some Entry.Route (route_fault w.grid rs) (Entry.Wire f) a in let d = c.2 in let o : ◌≡◌ {A = ℕ} 0 1 = cc in absurd (omega arith)
+  third t (inl a) = let c = carried_some Entry.Route (route_fault w.grid rs) (Entry.Wire f) a in let d = c.2 in absurd cc
   third t (inr a) = fourth t a.1
 
   second : TablesSound w → (unless (ltb w.entered w.places) (Entry.NoRoom w.places) ≡ Some (Entry.Wire f)) ⊎ ((unless (ltb w.entered w.places) (Entry.NoRoom w.places) ≡ None) × (rest ≡ Some (Entry.Wire f))) → FullBoundary
-  second t (inl a) = let c = unless_some (ltb w.entered w.places) (Entry.NoRoom w.places) (Entry.Wire f) a in let o : ◌≡◌ {A = ℕ} 0 1 = cc in absurd (omega arith)
+  second t (inl a) = let c = unless_some (ltb w.entered w.places) (Entry.NoRoom w.places) (Entry.Wire f) a in absurd cc
   second t (inr a) = third t (or_else_some (carried Entry.Route (route_fault w.grid rs)) (lowest (wire_at w rs) (length rs)) (Entry.Wire f) a.1)
 
   first : (carried Entry.Tables (table_fault w) ≡ Some (Entry.Wire f)) ⊎ ((carried Entry.Tables (table_fault w) ≡ None) × (or_else (unless (ltb w.entered w.places) (Entry.NoRoom w.places)) rest ≡ Some (Entry.Wire f))) → FullBoundary
-  first (inl a) = let c = carried_some Entry.Tables (table_fault w) (Entry.Wire f) a in let d = c.2 in let o : ◌≡◌ {A = ℕ} 0 1 = cc in absurd (omega arith)
+  first (inl a) = let c = carried_some Entry.Tables (table_fault w) (Entry.Wire f) a in let d = c.2 in absurd cc
   first (inr a) = second (tables_if w (carried_none Entry.Tables (table_fault w) a.0)) (or_else_some (unless (ltb w.entered w.places) (Entry.NoRoom w.places)) rest (Entry.Wire f) a.1)
 
   pub wired_told : entry_fault w rs ≡ Some (Entry.Wire f) → FullBoundary
@@ -409,7 +409,7 @@ lacking_only : (m : Meaning) (t n : ℕ) (f : StockFault) → t < count m → fa
 lacking_only m t n f l e = go (exists m t) (covers m t n) (lt-ltb t (count m) l) e
   where
     go : (x y : Bool) → x ≡ true → fault_of {A = Unit {0}} (cond x (cond y (Ok tt) (Err (Lacking t))) (Err (NoPlace t))) ≡ Some f → f ≡ Lacking t
-    go true true h z = let o : ◌≡◌ {A = ℕ} 0 1 = cc in absurd (omega arith)
+    go true true h z = absurd cc
     go true false h z = cc
     go false y h z = absurd (both_ways false refl h)
 
@@ -433,15 +433,15 @@ module _ (w : World) (k : ℕ) (f : StockFault) where
   rest_given = or_else (unless (is_planned w k) (Withdrawal.Waits k)) (lowest (giving_fault w k) (length (route_of w k)))
 
   third_given : TablesSound w → k < w.entered → (unless (is_planned w k) (Withdrawal.Waits k) ≡ Some (Withdrawal.Sites f)) ⊎ ((unless (is_planned w k) (Withdrawal.Waits k) ≡ None) × (lowest (giving_fault w k) (length (route_of w k)) ≡ Some (Withdrawal.Sites f))) → LackingTile
-  third_given t l (inl a) = let c = unless_some (is_planned w k) (Withdrawal.Waits k) (Withdrawal.Sites f) a in let o : ◌≡◌ {A = ℕ} 0 1 = cc in absurd (omega arith)
+  third_given t l (inl a) = let c = unless_some (is_planned w k) (Withdrawal.Waits k) (Withdrawal.Sites f) a in absurd cc
   third_given t l (inr a) = fourth_given t l a.1
 
   second_given : TablesSound w → (unless (ltb k w.entered) (Withdrawal.NoNet k) ≡ Some (Withdrawal.Sites f)) ⊎ ((unless (ltb k w.entered) (Withdrawal.NoNet k) ≡ None) × (rest_given ≡ Some (Withdrawal.Sites f))) → LackingTile
-  second_given t (inl a) = let c = unless_some (ltb k w.entered) (Withdrawal.NoNet k) (Withdrawal.Sites f) a in let o : ◌≡◌ {A = ℕ} 0 1 = cc in absurd (omega arith)
+  second_given t (inl a) = let c = unless_some (ltb k w.entered) (Withdrawal.NoNet k) (Withdrawal.Sites f) a in absurd cc
   second_given t (inr a) = third_given t (ltb-true k w.entered (unless_none (ltb k w.entered) (Withdrawal.NoNet k) a.0)) (or_else_some (unless (is_planned w k) (Withdrawal.Waits k)) (lowest (giving_fault w k) (length (route_of w k))) (Withdrawal.Sites f) a.1)
 
   first_given : (carried Withdrawal.Tables (table_fault w) ≡ Some (Withdrawal.Sites f)) ⊎ ((carried Withdrawal.Tables (table_fault w) ≡ None) × (or_else (unless (ltb k w.entered) (Withdrawal.NoNet k)) rest_given ≡ Some (Withdrawal.Sites f))) → LackingTile
-  first_given (inl a) = let c = carried_some Withdrawal.Tables (table_fault w) (Withdrawal.Sites f) a in let d = c.2 in let o : ◌≡◌ {A = ℕ} 0 1 = cc in absurd (omega arith)
+  first_given (inl a) = let c = carried_some Withdrawal.Tables (table_fault w) (Withdrawal.Sites f) a in let d = c.2 in absurd cc
   first_given (inr a) = second_given (tables_if w (carried_none Withdrawal.Tables (table_fault w) a.0)) (or_else_some (unless (ltb k w.entered) (Withdrawal.NoNet k)) rest_given (Withdrawal.Sites f) a.1)
 
   pub given_told : withdrawal_fault w k ≡ Some (Withdrawal.Sites f) → LackingTile

@@ -31,7 +31,7 @@ opened_true w o = record {
   sites_within = λ t l. omega (arith, o.sites_unused t l);
   wires_exact = o.wires_unused;
   wires_within = λ b l. omega (arith, o.wires_unused b l);
-  gates = λ k ms e. let z : ◌≡◌ {A = ℕ} 0 1 = cc in absurd (omega arith);
+  gates = λ k ms e. absurd cc;
 }
 
 module _ (sites wires : Meaning) (nets : List NetPlace) (records : List RecordPlace) (ss : Sound sites) (sw : Sound wires) where
@@ -55,10 +55,10 @@ module _ (sites wires : Meaning) (nets : List NetPlace) (records : List RecordPl
     where
       same : {X E : Type 0} {x y : X} → ◌≡◌ {A = Result X E} (Ok x) (Ok y) → x ≡ y
       same p = cc
-  answered g w (Some f) e r = let z : ◌≡◌ {A = ℕ} 0 1 = cc in absurd (omega arith)
+  answered g w (Some f) e r = absurd cc
 
   opens_opened : (rows columns : ℕ) (w : World) → Opens rows columns sites wires nets records (Ok w) → Opened w
-  opens_opened rows columns w (inl a) = let e = a.2 in let z : ◌≡◌ {A = ℕ} 0 1 = cc in absurd (omega arith)
+  opens_opened rows columns w (inl a) = let e = a.2 in absurd cc
   opens_opened rows columns w (inr a) = answered a.0 w (opening_fault a.0 sites wires nets records) refl a.2
 
 -- what drives at most the limit is not over it
@@ -77,6 +77,5 @@ books_tell = record {
       (sym (get_or-set_same w.wires.uses t u 0 (omega (arith, fit.wires.as_many_uses, fit.sizes.wires))) ∙ (b'.wires_exact t l ∙ sym (b.wires_exact t l)));
   overloaded = λ w h k ms i f e l over b.
       let none = none_over (net_told h k).limit i (gates_at (net_told h k).route ms i) (b.gates k ms e i l) in
-      let z : ◌≡◌ {A = ℕ} 0 1 = cc in
-      omega arith;
+      cc;
 }

@@ -1,5 +1,5 @@
 -- Each relation decides its answer, and what a call does at a cost type it does by whatever pricing.
-use Rattle.std.proofs.Common.{◌≡◌, ℕ, ◌≤◌, true, List, Some, None, Ok, Err, Option, Result, sym, refl, ap, ◌∙◌, subst, inl, inr, arith}
+use Rattle.std.proofs.Common.{◌≡◌, ℕ, ◌≤◌, true, List, Some, None, Ok, Err, Option, Result, sym, refl, ap, ◌∙◌, subst, inl, inr}
 use mathlib.Core.HLevel.{is_prop→PathP}
 use native.Mathlib.Bridge.{le_prop}
 use Rattle.grid.specs.declared.shape.Grid.{Grid}
@@ -20,13 +20,13 @@ use Rattle.runs.specs.Calls.{left_by, opened_world, Opens, PlanRefused, Plans, P
 use Rattle.runs.specs.Facts.{AnswersDecided, CostsDecided}
 
 some_none : {X : Type 0} (o : Option X) (x : X) → o ≡ None → o ≡ Some x → ⊥
-some_none o x p q = let z : ◌≡◌ {A = ℕ} 0 1 = cc in omega arith
+some_none o x p q = cc
 
 same_some : {X : Type 0} (o : Option X) (x y : X) → o ≡ Some x → o ≡ Some y → x ≡ y
 same_some o x y p q = cc
 
 ok_err : {X E : Type 0} (r : Result X E) (x : X) (e : E) → r ≡ Ok x → r ≡ Err e → ⊥
-ok_err r x e p q = let z : ◌≡◌ {A = ℕ} 0 1 = cc in omega arith
+ok_err r x e p q = cc
 
 -- a grid is nothing but its sides
 same_grid : (g g' : Grid) → g.rows ≡ g'.rows → g.columns ≡ g'.columns → g ≡ g'

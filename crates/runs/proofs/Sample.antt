@@ -82,7 +82,7 @@ only_one zero ms e = subst (Driven 2 path) same legal.driven
   where
     same : trunk ≡ ms
     same = cc
-only_one (suc k) ms e = let z : ◌≡◌ {A = ℕ} 0 1 = cc in absurd (omega arith)
+only_one (suc k) ms e = absurd cc
 
 pub runs_exist : RunsExist 42
 runs_exist = record {
