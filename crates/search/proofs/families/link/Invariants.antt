@@ -4,5 +4,6 @@ use Rattle.search.proofs.families.link.Given as goal
 
 abbrev pub invariant-loop-k : goal.invariant-loop-k
 invariant-loop-k l =
-    ((i : ℕ) → i < length l.records → members_at l.families i ≡ children_before l.records l.k i)
+    (length l.families ≡ 256) × (length l.ranks ≡ 256)
+    × ((i : ℕ) → i < length l.records → members_at l.families i ≡ children_before l.records l.k i)
     × ((j : ℕ) → j < l.k → get_or l.ranks j 0 ≡ rank_of l.records j)
