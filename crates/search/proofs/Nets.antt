@@ -1,6 +1,8 @@
 -- What is known of the records of any route.
-use Rattle.std.proofs.Common.{◌≤◌, length}
+use Rattle.std.proofs.Common.{◌≡◌, ℕ, ◌+◌, ◌<◌, ◌≤◌, length, get_or, ap, arith}
 use Rattle.net.specs.declared.records.Route.{Route}
+use Rattle.net.specs.declared.records.record.Record.{Record}
+use Rattle.net.specs.Routes.{no_record}
 use Rattle.net.specs.Checked.{records_of}
 use Rattle.net.specs.Proper.{Proper}
 use Rattle.net.proofs.Properly.{proper_if}
@@ -19,3 +21,7 @@ hangs r = let p = proper r in record { some = p.some; earlier = p.earlier }
 
 pub searchable : (r : Route) → Searchable (records_of r)
 searchable r = route_searchable r.grid (records_of r) r.checked
+
+-- the parent of the record of a turn has a place in any table of 256
+pub parent_small : (route : Route) (n k : ℕ) (r : Record) → (k ≡ n + 1) × (k < length (records_of route)) × (r ≡ get_or (records_of route) k no_record) → r.parent < 256
+parent_small route n k r t = omega (arith, few route, t.1, ap (λ r. r.parent) t.2, (searchable route).earlier k (omega (arith, t.0)) t.1)

@@ -36,8 +36,8 @@ pub(crate) fn link(route: &Route) -> ([Family; MOST], [u8; MOST])
     let records = route.records();
     let mut families = [NO_CHILDREN; MOST];
     let mut ranks = [0; MOST];
-    for k in 1..records.len() {
-        let parent = records[k].parent as usize;
+    for (k, record) in records.iter().enumerate().skip(1) {
+        let parent = record.parent as usize;
         let family = families[parent];
         ranks[k] = family.count;
         families[parent] = with_child(family, k as u8);

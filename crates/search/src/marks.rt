@@ -65,11 +65,10 @@ impl<'a, P: Cost> Rows<'a, P> {
         requires room { length marks.old ≡ length (records_of self.now.route.now) }
         ensures { (k : ℕ) → k < length (records_of self.now.route.now) → slice_index marks.new k ≡ handed_mark (problem (kind_of P.Cost) self.now.limit.value (records_of self.now.route.now) [] []) (rows_within P.Cost.held self.now.cells.now self.now.limit.value) e k }
     {
-        let records = self.route.records();
         let mut lengths = [e; MOST];
         marks[0] = mark_of(false, self.trunk(0, e));
-        for k in 1..records.len() {
-            let leg = self.leg(k, lengths[records[k].parent as usize]);
+        for (k, record) in self.route.records().iter().enumerate().skip(1) {
+            let leg = self.leg(k, lengths[record.parent as usize]);
             lengths[k] = leg.entering;
             marks[k] = mark_of(leg.head, self.trunk(k, leg.entering));
         }

@@ -1,4 +1,4 @@
-use Rattle.std.proofs.Common.{◌≡◌, ℕ, ◌<◌, [], length, get_or}
+use Rattle.std.proofs.Common.{◌≡◌, ℕ, ◌+◌, ◌<◌, [], length, get_or}
 use Rattle.net.specs.Checked.{records_of}
 use Rattle.best_plan.specs.Chosen.{problem}
 use Rattle.search_cells.specs.Cells.{rows_within}
@@ -14,5 +14,5 @@ invariant-loop-k g l =
     let N = problem (kind_of m) l.self.limit.value rs [] [] in
     let r = rows_within m.held l.self.cells.now l.self.limit.value in
     (length l.lengths ≡ 256)
-    × ((j : ℕ) → j < l.k → get_or l.lengths j 0 ≡ handed_down N r l.e (length rs) j)
-    × ((j : ℕ) → j < l.k → get_or l.marks j 0 ≡ handed_mark N r l.e j)
+    × ((j : ℕ) → j < length l.yielded + 1 → get_or l.lengths j 0 ≡ handed_down N r l.e (length rs) j)
+    × ((j : ℕ) → j < length l.yielded + 1 → get_or l.marks j 0 ≡ handed_mark N r l.e j)
