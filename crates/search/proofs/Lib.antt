@@ -1,1 +1,3 @@
+pub mod Nets
 pub mod Outcome
+pub mod Turns

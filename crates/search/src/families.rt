@@ -1,9 +1,9 @@
 // Which indices hang from which, found in one pass over the records.
-ghost use Rattle.std.specs.Prelude.{◌≡◌, ℕ, ◌<◌, ◌≤◌, [], ◌∷◌, length, slice_index};
-ghost use Rattle.search_cells.specs.Cells.{Searchable};
-ghost use Rattle.search_cells.specs.Families.{members, members_at, TellsFamilies, TellsRanks};
+ghost use Rattle.std.specs.Prelude.{◌≡◌, ◌<◌, ◌∷◌};
+ghost use Rattle.net.specs.Checked.{records_of};
+ghost use Rattle.search_cells.specs.Families.{members, TellsFamilies, TellsRanks};
 
-use net::records::record::Record;
+use net::records::Route;
 use search_cells::Family;
 
 // The most records that a route has.
@@ -29,20 +29,18 @@ fn with_child(family: Family, k: u8) -> Family
 }
 
 // The children of each index, and for each index how many of its siblings stand before it.
-pub(crate) fn link(records: &[Record], families: &mut [Family], ranks: &mut [u8])
-    requires tree { Searchable records.now }
-    requires many { length records.now ≤ 256 }
-    requires wide { length records.now ≤ length families.old }
-    requires long { length records.now ≤ length ranks.old }
-    requires first { slice_index ranks.old 0 ≡ 0 }
-    requires fresh { (i : ℕ) → i < length records.now → members_at families.old i ≡ [] }
-    ensures families { TellsFamilies records.now families.new }
-    ensures ranks { TellsRanks records.now ranks.new }
+pub(crate) fn link(route: &Route) -> ([Family; MOST], [u8; MOST])
+    ensures families { TellsFamilies (records_of route.now) result.0 }
+    ensures ranks { TellsRanks (records_of route.now) result.1 }
 {
-    for k in 1..records.len() {
-        let parent = records[k].parent as usize;
+    let records = route.records();
+    let mut families = [NO_CHILDREN; MOST];
+    let mut ranks = [0; MOST];
+    for (k, record) in records.iter().enumerate().skip(1) {
+        let parent = record.parent as usize;
         let family = families[parent];
         ranks[k] = family.count;
         families[parent] = with_child(family, k as u8);
     }
+    (families, ranks)
 }

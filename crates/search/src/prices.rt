@@ -1,6 +1,5 @@
 // What is told of the sites along a route.
 ghost use Rattle.std.specs.Prelude.{◌≡◌};
-ghost use Rattle.length_rule.specs.Costs.{price_at};
 ghost use Rattle.length_rule.specs.Legal.{spare_at};
 ghost use Rattle.best_plan.specs.Chosen.{offered as offer};
 
@@ -10,27 +9,15 @@ use cost::Cost;
 pub(crate) fn spare_at(spare: &[u16], index: usize) -> u16
     ensures { result ≡ spare_at spare.now index }
 {
-    if index < spare.len() { spare[index] } else { 0 }
+    spare.get(index).copied().unwrap_or(0)
 }
 
-// The price in the tile of an index; none where none is told.
-fn price_at<P: Cost>(prices: &[Option<P>], index: usize) -> Option<P>
-    ensures { result ≡ price_at prices.now index }
-{
-    if index < prices.len() {
-        prices[index]
-    } else {
-        None
-    }
-}
-
-// The price in the tile of an index, where it has a spare site.
+// The price in the tile of an index, where it has a spare site; none where none is told.
 pub(crate) fn offered<P: Cost>(spare: &[u16], prices: &[Option<P>], index: usize) -> Option<P>
     ensures { result ≡ offer spare.now prices.now index }
 {
-    if spare_at(spare, index) > 0 {
-        price_at::<P>(prices, index)
-    } else {
-        None
+    if spare_at(spare, index) == 0 {
+        return None;
     }
+    prices.get(index).copied().flatten()
 }

@@ -1,21 +1,19 @@
 // The search of a net for a cheapest legal plan.
 ghost use Rattle.std.specs.Prelude.{◌≡◌, ℕ, ◌+◌, ◌*◌, ◌<◌, ◌≤◌, false, length, is_ok};
 ghost use Rattle.net.specs.Checked.{records_of};
-ghost use Rattle.search_cells.specs.Cells.{Searchable};
 ghost use Rattle.best_plan.specs.Chosen.{chosen};
 ghost use Rattle.refusal.specs.Told.{told_by};
 ghost use Rattle.search.specs.Answers.{cells_needed, cost_of, marks_of_chosen, search_answer, search_refusal, marks_after, told, TellsBest, RestsOnNet};
 ghost use Rattle.search_theory.specs.Costs.{kind_of};
 
-use crate::families::{MOST, NO_CHILDREN, link};
+use crate::families::link;
 use crate::fault::SearchFault;
 use crate::least::best_entry;
-use crate::marks::decide;
+use crate::marks::Rows;
 use crate::walk::walk;
 use cost::Cost;
 use net::limit::Limit;
 use net::records::Route;
-use net::records::record::Record;
 use search_cells::Entry;
 
 // The rows of cells beside those of the records.
@@ -23,33 +21,30 @@ const SPARE_ROWS: usize = 10;
 
 // The cost of the plan that is chosen, with its marks written; nothing where none is.
 fn planned<P: Cost>(
-    limit: u8,
-    records: &[Record],
+    limit: Limit,
+    route: &Route,
     spare: &[u16],
     prices: &[Option<P>],
     cells: &mut [Option<Entry<P::Cell>>],
     marks: &mut [u8],
 ) -> Option<P>
-    requires fits { limit < 255 }
-    requires tree { Searchable records.now }
-    requires many { length records.now ≤ 256 }
-    requires own { length records.now * (limit + 1) + 5 * (limit + 1) ≤ length cells.old }
-    requires room { length marks.old ≡ length records.now }
-    ensures answer { result ≡ cost_of (chosen (kind_of P.Cost) limit records.now spare.now prices.now) }
-    ensures marks { marks.new ≡ marks_of_chosen marks.old (chosen (kind_of P.Cost) limit records.now spare.now prices.now) }
+    requires own { length (records_of route.now) * (limit.value + 1) + 5 * (limit.value + 1) ≤ length cells.old }
+    requires room { length marks.old ≡ length (records_of route.now) }
+    ensures answer { result ≡ cost_of (chosen (kind_of P.Cost) limit.value (records_of route.now) spare.now prices.now) }
+    ensures marks { marks.new ≡ marks_of_chosen marks.old (chosen (kind_of P.Cost) limit.value (records_of route.now) spare.now prices.now) }
 {
-    let mut families = [NO_CHILDREN; MOST];
-    let mut ranks = [0; MOST];
-    link(records, &mut families, &mut ranks);
-    walk::<P>(cells, records, &families, spare, prices, limit);
-    let first = best_entry::<P>(cells, 0, limit + 1);
-    match first {
-        None => None,
-        Some(x) => {
-            decide::<P>(cells, records, &ranks, limit, x.length, marks);
-            Some(P::from_cell(x.cost))
-        }
-    }
+    let (families, ranks) = link(route);
+    let figure = limit.figure() as u8;
+    walk::<P>(cells, route.records(), &families, spare, prices, figure);
+    let first = best_entry::<P>(cells, 0, figure + 1)?;
+    let rows = Rows::<P> {
+        limit,
+        route,
+        ranks: &ranks,
+        cells,
+    };
+    rows.decide(first.length, marks);
+    Some(P::from_cell(first.cost))
 }
 
 // The work cells that a search of this net needs.
@@ -86,5 +81,5 @@ pub fn search<P: Cost>(
     if marks.len() != records.len() {
         return Err(SearchFault::Marks(records.len()));
     }
-    Ok(planned::<P>(limit.figure() as u8, records, spare, prices, cells, marks))
+    Ok(planned::<P>(limit, route, spare, prices, cells, marks))
 }

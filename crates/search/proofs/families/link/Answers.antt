@@ -1,24 +1,72 @@
 -- Each index is linked to its parent, whose children so far are its siblings before it.
-use Rattle.std.proofs.Common.{◌≡◌, ◌<◌, length, get_or, arith}
+use Rattle.std.proofs.Common.{◌≡◌, ℕ, ◌+◌, ◌<◌, ◌≤◌, [], ◌∷◌, ◌++◌, replicate, length, get_or, set, refl, ap, subst, sym, ◌∙◌, arith, length-set}
+use Rattle.std.proofs.lemmas.List.{get_or-replicate, length_push}
+use Rattle.net.specs.Checked.{records_of}
 use Rattle.net.specs.Routes.{parent_of}
-use Rattle.search_cells.specs.Families.{rank_of}
+use Rattle.search_cells.specs.Families.{no_family, members, members_at, children_before, rank_of}
 use Rattle.search_cells.proofs.Inplace.{first_only, set_more}
 use Rattle.search_cells.proofs.Kinship.{rank_is, few_siblings, linked_more}
+use Rattle.search.proofs.Nets.{few, searchable, parent_small}
+use Rattle.search.proofs.Turns.{next_turn, last_turn}
 use Rattle.search.proofs.families.link.Goals as goal
 
 pub loop-k-init : goal.loop-k-init
-loop-k-init c = (c.requires.fresh, first_only (λ j. get_or c.args.ranks.now j 0 ≡ rank_of c.args.records.now j) c.requires.first)
+loop-k-init c = (
+  refl,
+  refl,
+  λ i l. ap members (get_or-replicate 256 i (record { count = 0; at = replicate 4 0 }) no_family (omega (arith, few c.args.route.now))),
+  first_only (λ j. get_or (replicate 256 0) j 0 ≡ rank_of (records_of c.args.route.now) j) refl,
+)
+
+pub bounds-families-parent : goal.bounds-families-parent
+bounds-families-parent c =
+    let rs = records_of c.args.route.now in
+    parent_small c.args.route.now _ _ _ (next_turn rs _ (cc) (cc) (cc) c.loop-k.yielded _ c.loop-k.yielded_by _ _ c.in-Some.k c.in-Some.record c.in-Some.is c.next.ensures.steps)
+
+pub bounds-families-parent-in-loop-k : goal.bounds-families-parent-in-loop-k
+bounds-families-parent-in-loop-k c =
+    let rs = records_of c.args.route.now in
+    parent_small c.args.route.now _ _ _ (next_turn rs _ (cc) (cc) (cc) c.loop-k.yielded _ c.loop-k.yielded_by _ _ c.in-Some.k c.in-Some.record c.in-Some.is c.next.ensures.steps)
 
 pub with_child-requires : goal.with_child-requires
-with_child-requires c = few_siblings c.args.records.now c.requires.tree c.loop-k.families c.loop-k.k (omega arith) (omega arith) c.loop-k.invariant.0
+with_child-requires c =
+    let route = c.args.route.now in
+    let rs = records_of route in
+    let fs = c.loop-k.families in
+    let k = c.in-Some.k in
+    let t = next_turn rs _ (cc) (cc) (cc) c.loop-k.yielded _ c.loop-k.yielded_by _ _ c.in-Some.k c.in-Some.record c.in-Some.is c.next.ensures.steps in
+    let pos : 0 < k = omega (arith, t.0) in
+    subst (λ p. (get_or fs p no_family).count < 4) (sym (ap (λ r. r.parent) t.2))
+    (few_siblings rs (searchable route) fs k pos t.1 (λ i l. c.loop-k.invariant.2 i l ∙ ap (λ n. children_before rs n i) (sym t.0)))
 
 pub loop-k-preserved : goal.loop-k-preserved
 loop-k-preserved c =
-    let rs = c.args.records.now in
-    let k = c.loop-k.k in
-    let pos : 0 < k = omega arith in
-    let inside : k < length rs = omega arith in
-    let before : parent_of rs k < k = c.requires.tree.earlier k pos inside in (
-      linked_more rs c.requires.tree c.loop-k.families k pos inside c.loop-k.invariant.0 c.with_child.result (omega arith) c.with_child.ensures,
-      set_more 0 (rank_of rs) c.loop-k.ranks k _ (omega arith) (rank_is rs c.requires.tree c.loop-k.families k pos inside c.loop-k.invariant.0) c.loop-k.invariant.1,
+    let route = c.args.route.now in
+    let rs = records_of route in
+    let fs = c.loop-k.families in
+    let k = c.in-Some.k in
+    let t = next_turn rs _ (cc) (cc) (cc) c.loop-k.yielded _ c.loop-k.yielded_by _ _ c.in-Some.k c.in-Some.record c.in-Some.is c.next.ensures.steps in
+    let pos : 0 < k = omega (arith, t.0) in
+    let parent : c.in-Some.record.now.parent ≡ parent_of rs k = ap (λ r. r.parent) t.2 in
+    let so_far : (i : ℕ) → i < length rs → members_at fs i ≡ children_before rs k i = λ i l. c.loop-k.invariant.2 i l ∙ ap (λ n. children_before rs n i) (sym t.0) in
+    let before : parent_of rs k < k = (searchable route).earlier k pos t.1 in
+    let most : length rs ≤ 256 = few route in
+    let count : length (c.loop-k.yielded ++ (k, c.in-Some.record) ∷ []) ≡ length c.loop-k.yielded + 1 = length_push c.loop-k.yielded (k, c.in-Some.record) in
+    let more : k + 1 ≡ length (c.loop-k.yielded ++ (k, c.in-Some.record) ∷ []) + 1 = omega (arith, count, t.0) in (
+      length-set fs c.in-Some.record.now.parent c.with_child.result ∙ c.loop-k.invariant.0,
+      length-set c.loop-k.ranks k _ ∙ c.loop-k.invariant.1,
+      λ i l. ap (λ p. members_at (set fs p c.with_child.result) i) parent
+          ∙ linked_more rs (searchable route) fs k pos t.1 so_far c.with_child.result (omega (arith, before, c.loop-k.invariant.0, t.1)) (c.with_child.ensures ∙ ap (λ p. k ∷ members_at fs p) parent) i l
+          ∙ ap (λ n. children_before rs n i) more,
+      λ j l. set_more 0 (rank_of rs) c.loop-k.ranks k _ (omega (arith, c.loop-k.invariant.1, t.1)) (ap (λ p. (get_or fs p no_family).count) parent ∙ rank_is rs (searchable route) fs k pos t.1 so_far)
+          (λ j l. c.loop-k.invariant.3 j (omega (arith, t.0))) j (omega (arith, more)),
     )
+
+pub returns : goal.returns
+returns c =
+    let rs = records_of c.args.route.now in
+    let all = last_turn rs _ (cc) (cc) (cc) c.loop-k.yielded _ c.loop-k.yielded_by _ _ c.in-None.is c.next.ensures.steps (searchable c.args.route.now).some in
+    record {
+      families = λ i l. c.loop-k.invariant.2 i l ∙ ap (λ n. children_before rs n i) all;
+      ranks = λ k l. c.loop-k.invariant.3 k (omega (arith, all));
+    }

@@ -1,12 +1,8 @@
 -- A route has at most 256 records and a limit is at most the largest, so the product fits.
 use Rattle.std.proofs.Common.{◌+◌, ◌*◌, ◌≤◌, length, ap, ◌∙◌, mul-le-mul, arith}
 use Rattle.net.specs.Checked.{records_of}
-use Rattle.net.specs.declared.records.Route.{Route}
-use Rattle.net.proofs.Properly.{proper_if}
+use Rattle.search.proofs.Nets.{few}
 use Rattle.search.proofs.searching.needed.Goals as goal
-
-few : (r : Route) → length (records_of r) ≤ 256
-few r = (proper_if r.grid (records_of r) r.checked).not_many
 
 pub overflow_add-result : goal.overflow_add-result
 overflow_add-result c = omega (arith, few c.args.route.now, ap length c.records.ensures)
