@@ -57,7 +57,7 @@ fn leg<P: Cost>(
     match cell {
         None => NO_LEG,
         Some(x) => {
-            let legs = x.legs;
+            let legs = x.what.legs.items;
             legs[ranks[k] as usize]
         }
     }
@@ -72,7 +72,7 @@ fn trunk_of<P: Cost>(cells: &[Option<Entry<P::Cell>>], limit: u8, n: usize, k: u
     let cell = read::<P>(cells, limit, n, k, e);
     match cell {
         None => false,
-        Some(x) => x.trunk,
+        Some(x) => x.what.trunk,
     }
 }
 

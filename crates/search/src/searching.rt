@@ -11,11 +11,11 @@ use crate::families::{MOST, NO_CHILDREN, link};
 use crate::fault::SearchFault;
 use crate::least::best_entry;
 use crate::marks::decide;
+use crate::places::nth_row;
 use crate::walk::walk;
 use cost::Cost;
 use net::limit::Limit;
 use net::records::Route;
-use net::records::record::Record;
 use search_cells::Entry;
 
 // The rows of cells beside those of the records.
@@ -23,30 +23,28 @@ const SPARE_ROWS: usize = 10;
 
 // The cost of the plan that is chosen, with its marks written; nothing where none is.
 fn planned<P: Cost>(
-    limit: u8,
-    records: &[Record],
+    limit: Limit,
+    route: &Route,
     spare: &[u16],
     prices: &[Option<P>],
     cells: &mut [Option<Entry<P::Cell>>],
     marks: &mut [u8],
 ) -> Option<P>
-    requires fits { limit < 255 }
-    requires tree { Searchable records.now }
-    requires many { length records.now ≤ 256 }
-    requires own { length records.now * (limit + 1) + 5 * (limit + 1) ≤ length cells.old }
-    requires room { length marks.old ≡ length records.now }
-    ensures answer { result ≡ cost_of (chosen (kind_of P.Cost) limit records.now spare.now prices.now) }
-    ensures marks { marks.new ≡ marks_of_chosen marks.old (chosen (kind_of P.Cost) limit records.now spare.now prices.now) }
+    requires own { length (records_of route.now) * (limit.value + 1) + 5 * (limit.value + 1) ≤ length cells.old }
+    requires room { length marks.old ≡ length (records_of route.now) }
+    ensures answer { result ≡ cost_of (chosen (kind_of P.Cost) limit.value (records_of route.now) spare.now prices.now) }
+    ensures marks { marks.new ≡ marks_of_chosen marks.old (chosen (kind_of P.Cost) limit.value (records_of route.now) spare.now prices.now) }
 {
     let mut families = [NO_CHILDREN; MOST];
     let mut ranks = [0; MOST];
+    let records = route.records();
     link(records, &mut families, &mut ranks);
-    walk::<P>(cells, records, &families, spare, prices, limit);
-    let first = best_entry::<P>(cells, 0, limit + 1);
+    walk::<P>(cells, route, &families, spare, prices, limit);
+    let first = best_entry::<P>(nth_row(cells, limit, 0));
     match first {
         None => None,
         Some(x) => {
-            decide::<P>(cells, records, &ranks, limit, x.length, marks);
+            decide::<P>(cells, records, &ranks, limit.figure() as u8, x.what, marks);
             Some(P::from_cell(x.cost))
         }
     }
@@ -86,5 +84,5 @@ pub fn search<P: Cost>(
     if marks.len() != records.len() {
         return Err(SearchFault::Marks(records.len()));
     }
-    Ok(planned::<P>(limit.figure() as u8, records, spare, prices, cells, marks))
+    Ok(planned::<P>(limit, route, spare, prices, cells, marks))
 }

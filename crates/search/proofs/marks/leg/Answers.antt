@@ -26,9 +26,9 @@ returns-in-Some g c =
     let p = parent_of ps c.args.k in
     let before : p < c.args.k = c.requires.tree.earlier c.args.k c.requires.one c.requires.inside in
     let small : p < length ps = omega arith in
-    ap (λ i. branch_of (get_or x.legs i no_leg)) (c.requires.ranked c.args.k c.requires.inside)
+    ap (λ i. branch_of (get_or x.what.legs.items i no_leg)) (c.requires.ranked c.args.k c.requires.inside)
     ∙ choice_some (problem (kind_of m) c.args.limit ps [] []) (rows_within m.held c.args.cells.now c.args.limit) c.args.k c.args.e
-    (m.held x.cost) x.trunk x.legs x.count c.in-Some.ensures (c.requires.long p c.args.e small) c.requires.one c.requires.inside
+    (m.held x.cost) x.what.trunk x.what.legs c.in-Some.ensures (c.requires.long p c.args.e small) c.requires.one c.requires.inside
 
 pub offset_bounds-records-k : goal.offset_bounds-records-k
 offset_bounds-records-k g c = omega arith

@@ -7,8 +7,6 @@ use Rattle.net.proofs.Properly.{proper_if}
 use Rattle.best_plan.specs.Cheapest.{HangsTogether}
 use Rattle.best_plan.specs.Chosen.{chosen}
 use Rattle.best_plan.proofs.Legals.{chosen_best}
-use Rattle.search_cells.specs.Cells.{Searchable}
-use Rattle.search_cells.proofs.Narrow.{route_searchable}
 use Rattle.search.specs.declared.fault.SearchFault.TheVariants.{Cells, Marks}
 use Rattle.search.specs.Answers.{cells_needed, cost_of, marks_of_chosen}
 use Rattle.search.proofs.Outcome.{Searched, short, uneven, made}
@@ -51,23 +49,11 @@ returns-then-marks-records g c =
 
 pub planned-requires : goal.planned-requires
 planned-requires g c =
-    let route = c.args.route.now in
-    let rs = c.records-records.result.now in
-    let is : rs ≡ records_of route = c.records-records.ensures in
-    let w = c.figure.result + 1 in
-    let enough : (length rs + 10) * w ≤ length c.args.cells.now =
-    subst (λ r. (length r + 10) * w ≤ length c.args.cells.now) (sym is)
-    (subst (λ f. (length (records_of route) + 10) * (f + 1) ≤ length c.args.cells.now) (sym c.figure.ensures) (omega (arith, c.needed-needed.ensures))) in
+    let n = length (records_of c.args.route.now) in
     record {
-      fits = omega (arith, c.figure.ensures, c.args.limit.fits);
-      tree = subst Searchable (sym is) (route_searchable route.grid (records_of route) route.checked);
-      many = subst (λ r. length r ≤ 256) (sym is) (proper route).not_many;
-      own = omega (arith, enough, add-mul (length rs) 10 w);
-      room = omega arith;
+      own = omega (arith, c.needed-needed.ensures, add-mul n 10 (c.args.limit.value + 1));
+      room = omega (arith, ap length c.records-records.ensures);
     }
-
-pub overflow_cast-figure : goal.overflow_cast-figure
-overflow_cast-figure g c = omega (arith, c.figure.ensures, c.args.limit.fits)
 
 pub returns : goal.returns
 returns g c =
@@ -79,11 +65,7 @@ returns g c =
     let spare = c.args.spare.now in
     let prices = c.args.prices.now in
     let ms = c.args.marks.now in
-    let is : c.records-records.result.now ≡ rs = c.records-records.ensures in
-    let same : chosen o c.figure.result c.records-records.result.now spare prices ≡ chosen o limit rs spare prices =
-    ap (λ l. chosen o l c.records-records.result.now spare prices) c.figure.ensures ∙ ap (λ r. chosen o limit r spare prices) is in
     let s =
-    made o limit rs spare prices c.args.cells.now ms (hangs route) (omega (arith, c.needed-needed.ensures)) c.planned.new.cells c.planned.result c.planned.new.marks (omega (arith, ap length is))
-    (c.planned.ensures.answer ∙ ap cost_of same) (c.planned.ensures.marks ∙ ap (marks_of_chosen ms) same)
-    (chosen_best g.met.P.Cost.lawful limit rs spare prices (hangs route)) in
+    made o limit rs spare prices c.args.cells.now ms (hangs route) (omega (arith, c.needed-needed.ensures)) c.planned.new.cells c.planned.result c.planned.new.marks (omega (arith, ap length c.records-records.ensures))
+    c.planned.ensures.answer c.planned.ensures.marks (chosen_best g.met.P.Cost.lawful limit rs spare prices (hangs route)) in
     record { answer = s.answer; told = s.refused; marks = s.marks; alone = s.alone; kept = s.kept; best = s.best }
