@@ -12,7 +12,7 @@ pub(crate) const MOST: usize = 256;
 // The family of an index that nothing hangs from.
 pub(crate) const NO_CHILDREN: Family = Family {
     count: 0,
-    at: [0; 4],
+    items: [0; 4],
 };
 
 // The family with one child more.
@@ -20,12 +20,7 @@ fn with_child(family: Family, k: u8) -> Family
     requires { family.count < 4 }
     ensures { members result ≡ k ∷ members family }
 {
-    let mut at = family.at;
-    at[family.count as usize] = k;
-    Family {
-        count: family.count + 1,
-        at,
-    }
+    family.push(k)
 }
 
 // The children of each index, and for each index how many of its siblings stand before it.

@@ -14,7 +14,7 @@ pub loop-k-init : goal.loop-k-init
 loop-k-init c = (
   refl,
   refl,
-  λ i l. ap members (get_or-replicate 256 i (record { count = 0; at = replicate 4 0 }) no_family (omega (arith, few c.args.route.now))),
+  λ i l. ap members (get_or-replicate 256 i (record { count = 0; items = replicate 4 0 }) no_family (omega (arith, few c.args.route.now))),
   first_only (λ j. get_or (replicate 256 0) j 0 ≡ rank_of (records_of c.args.route.now) j) refl,
 )
 

@@ -1,5 +1,5 @@
 use Rattle.std.proofs.Common.{◌+◌, refl, arith}
-use Rattle.search_cells.proofs.Inplace.{rows_apart}
+use Rattle.search_cells.proofs.Parts.{rows_apart}
 use Rattle.search.proofs.places.place.Goals as goal
 
 pub overflow_mul-result : goal.overflow_mul-result
