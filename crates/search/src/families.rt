@@ -1,7 +1,6 @@
 // Which indices hang from which, found in one pass over the records.
-ghost use Rattle.std.specs.Prelude.{◌≡◌, ◌<◌, ◌∷◌};
 ghost use Rattle.net.specs.Checked.{records_of};
-ghost use Rattle.search_cells.specs.Families.{members, TellsFamilies, TellsRanks};
+ghost use Rattle.search_cells.specs.Families.{TellsFamilies, TellsRanks};
 
 use net::records::Route;
 use search_cells::Family;
@@ -15,14 +14,6 @@ pub(crate) const NO_CHILDREN: Family = Family {
     items: [0; 4],
 };
 
-// The family with one child more.
-fn with_child(family: Family, k: u8) -> Family
-    requires { family.count < 4 }
-    ensures { members result ≡ k ∷ members family }
-{
-    family.push(k)
-}
-
 // The children of each index, and for each index how many of its siblings stand before it.
 pub(crate) fn link(route: &Route) -> ([Family; MOST], [u8; MOST])
     ensures families { TellsFamilies (records_of route.now) result.0 }
@@ -35,7 +26,7 @@ pub(crate) fn link(route: &Route) -> ([Family; MOST], [u8; MOST])
         let parent = record.parent as usize;
         let family = families[parent];
         ranks[k] = family.count;
-        families[parent] = with_child(family, k as u8);
+        families[parent] = family.push(k as u8);
     }
     (families, ranks)
 }

@@ -1,5 +1,5 @@
 -- The rows are the search's, so the driver's best entry and the marks handed down are the plan that is chosen.
-use Rattle.std.proofs.Common.{length, Some, ap, ◌∙◌, arith}
+use Rattle.std.proofs.Common.{Some, ap, ◌∙◌, arith}
 use Rattle.net.specs.Checked.{records_of}
 use Rattle.search_theory.specs.Costs.{kind_of}
 use Rattle.search_theory.specs.Joining.{best_entry}

@@ -1,5 +1,5 @@
 -- A route's records can be searched, the cells suffice, and what is chosen is best.
-use Rattle.std.proofs.Common.{◌≡◌, ◌+◌, ◌*◌, ◌≤◌, length, Err, sym, ap, subst, add-mul, arith}
+use Rattle.std.proofs.Common.{◌≡◌, ◌+◌, length, Err, sym, ap, subst, add-mul, arith}
 use Rattle.net.specs.Checked.{records_of}
 use Rattle.best_plan.proofs.Legals.{chosen_best}
 use Rattle.search.specs.declared.fault.SearchFault.TheVariants.{Cells, Marks}
