@@ -1,14 +1,13 @@
 -- A route's records can be searched, the cells suffice, and what is chosen is best.
-use Rattle.std.proofs.Common.{◌≡◌, ◌+◌, ◌*◌, ◌≤◌, length, Err, sym, ap, ◌∙◌, subst, add-mul, arith}
+use Rattle.std.proofs.Common.{◌≡◌, ◌+◌, length, Err, sym, ap, subst, add-mul, arith}
 use Rattle.net.specs.declared.records.Route.{Route}
 use Rattle.net.specs.Checked.{records_of}
 use Rattle.net.specs.Proper.{Proper}
 use Rattle.net.proofs.Properly.{proper_if}
 use Rattle.best_plan.specs.Cheapest.{HangsTogether}
-use Rattle.best_plan.specs.Chosen.{chosen}
 use Rattle.best_plan.proofs.Legals.{chosen_best}
 use Rattle.search.specs.declared.fault.SearchFault.TheVariants.{Cells, Marks}
-use Rattle.search.specs.Answers.{cells_needed, cost_of, marks_of_chosen}
+use Rattle.search.specs.Answers.{cells_needed}
 use Rattle.search.proofs.Outcome.{Searched, short, uneven, made}
 use Rattle.search.proofs.searching.search.Goals as goal
 use Rattle.search_theory.specs.Costs.{kind_of}

@@ -1,5 +1,5 @@
 -- One row more: the table of the index's children gives the row of the search, and the rows after it stay.
-use Rattle.std.proofs.Common.{◌≡◌, ℕ, suc, ◌+◌, ◌-◌, ◌*◌, ◌<◌, ◌≤◌, List, ◌++◌, ltb, map, length, get_or, take, drop, Option, None, sym, ap, ◌∙◌, subst, inl, inr, suc-mul, eq-or-lt_of_le, length-take-le, arith}
+use Rattle.std.proofs.Common.{◌≡◌, ℕ, ◌+◌, ◌-◌, ◌*◌, ◌<◌, ◌≤◌, List, ◌++◌, ltb, map, length, get_or, take, drop, None, sym, ap, ◌∙◌, subst, inl, inr, eq-or-lt_of_le, length-take-le, arith}
 use Rattle.std.proofs.lemmas.List.{get_or_append_left}
 use Rattle.net.specs.declared.records.Route.{Route}
 use Rattle.net.specs.Checked.{records_of}
