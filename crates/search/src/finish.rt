@@ -1,5 +1,5 @@
 // The row of an index, from the table of its children.
-ghost use Rattle.std.specs.Prelude.{◌≡◌, ℕ, suc, ◌+◌, ◌-◌, ◌*◌, ◌<◌, ◌≤◌, true, false, length, if◌then◌else◌, Some, None, nat_eq, slice_index_or};
+ghost use Rattle.std.specs.Prelude.{◌≡◌, ℕ, suc, ◌+◌, ◌-◌, ◌*◌, ◌<◌, ◌≤◌, true, false, length, if◌then◌else◌, Some, None, nat_eq};
 ghost use Rattle.length_rule.specs.Costs.{kth_price};
 ghost use Rattle.search_theory.specs.Entries.{cheaper as less, cheapest as cheapest_of};
 ghost use Rattle.search_theory.specs.Joining.{charged as paid, chosen as decided, plain, trunked, finish as finished};
@@ -8,7 +8,7 @@ ghost use Rattle.search_theory.specs.Costs.{kind_of};
 
 use crate::least::{cheaper, cheapest};
 use crate::merge::{ROWS, charged};
-use crate::places::nth_row;
+use crate::places::{cell, nth_row};
 use cost::Cost;
 use net::limit::Limit;
 use plan_cost::kth_price;
@@ -35,26 +35,14 @@ fn column<P: Cost>(
     requires reach { e ≤ limit.value }
     ensures { as_joined P.Cost.held result ≡ cheapest_of (kind_of P.Cost) rows (λ h. table_of P.Cost.held table.now (limit.value + 1) h e) }
 {
-    cheapest::<P, Chosen, _>(rows, |h|
-        requires within { 5 * (limit.value + 1) ≤ length table.now }
-        requires below { h < 5 }
-        requires reach { e ≤ limit.value }
-        ensures { result ≡ slice_index_or table.entry.now (h * (limit.value + 1) + e) None }
-    {
-        nth_row(table, limit, h)[e]
-    })
+    cheapest::<P, Chosen, _>(rows, |h| cell(nth_row(table, limit, h), e))
 }
 
 // The cheapest of a table's row.
 fn level<P: Cost>(row: &[Option<Entry<P::Cell>>]) -> Option<Entry<P::Cell>>
     ensures { as_joined P.Cost.held result ≡ cheapest_of (kind_of P.Cost) (length row.now) (line_in P.Cost.held row.now) }
 {
-    cheapest::<P, Chosen, _>(row.len(), |j|
-        requires { j < length row.now }
-        ensures { result ≡ slice_index_or row.entry.now j None }
-    {
-        row[j]
-    })
+    cheapest::<P, Chosen, _>(row.len(), |j| cell(row, j))
 }
 
 // The cheapest of the first `rows` rows of the table, with a buffer more.
@@ -68,13 +56,17 @@ fn driven<P: Cost>(
     requires most { rows ≤ 5 }
     ensures { as_joined P.Cost.held result ≡ cheapest_of (kind_of P.Cost) rows (λ h. paid (kind_of P.Cost) (kth_price P.Cost.nothing P.Cost.plus price h) (cheapest_of (kind_of P.Cost) (suc limit.value) (λ j. table_of P.Cost.held table.now (limit.value + 1) h j))) }
 {
-    cheapest::<P, Chosen, _>(rows, |h|
+    let row_driven = |h|
         requires within { 5 * (limit.value + 1) ≤ length table.now }
         requires below { h < 5 }
         ensures { as_joined P.Cost.held result ≡ paid (kind_of P.Cost) (kth_price P.Cost.nothing P.Cost.plus price h) (cheapest_of (kind_of P.Cost) (suc limit.value) (λ j. table_of P.Cost.held table.entry.now (limit.value + 1) h j)) }
     {
-        charged::<P>(kth_price::<P>(price, h), level::<P>(nth_row(table, limit, h)))
-    })
+        charged::<P>(
+            kth_price::<P>(price, h),
+            level::<P>(nth_row(table, limit, h)),
+        )
+    };
+    cheapest::<P, Chosen, _>(rows, row_driven)
 }
 
 // No table has more rows.

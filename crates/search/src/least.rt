@@ -4,6 +4,7 @@ ghost use Rattle.search_theory.specs.Joining.{tagged as tag, best_entry as least
 ghost use Rattle.search_cells.specs.Cells.{as_chosen, as_reached, row_in, lesser, LeastOf};
 ghost use Rattle.search_theory.specs.Costs.{kind_of};
 
+use crate::places::cell;
 use cost::Cost;
 use search_cells::{Entry, Priced, Reach};
 
@@ -14,16 +15,19 @@ pub(crate) fn cheaper<P: Cost, W: Copy>(
 ) -> Option<Priced<P::Cell, W>>
     ensures { result ≡ lesser (kind_of P.Cost) P.Cost.held a b }
 {
-    match (a, b) {
-        (None, _) => b,
-        (_, None) => a,
-        (Some(x), Some(y)) => {
-            if P::from_cell(x.cost).at_most(P::from_cell(y.cost)) {
-                a
-            } else {
-                b
+    // Matched one after the other: a `match (a, b)` copies both, and the search is a tenth slower.
+    match a {
+        None => b,
+        Some(x) => match b {
+            None => Some(x),
+            Some(y) => {
+                if P::from_cell(x.cost).at_most(P::from_cell(y.cost)) {
+                    Some(x)
+                } else {
+                    Some(y)
+                }
             }
-        }
+        },
     }
 }
 
@@ -43,13 +47,12 @@ pub(crate) fn cheapest<P: Cost, W: Copy, F: Fn(usize) -> Option<Priced<P::Cell, 
 }
 
 // What a row's cell says of the length at which it stands.
-pub(crate) fn tagged<P: Cost>(cell: Option<Entry<P::Cell>>, e: usize) -> Option<Reach<P::Cell>>
-    requires { e < 256 }
+pub(crate) fn tagged<P: Cost>(cell: Option<Entry<P::Cell>>, e: u8) -> Option<Reach<P::Cell>>
     ensures { as_reached P.Cost.held result ≡ tag e (as_chosen P.Cost.held cell) }
 {
     cell.map(|x| Priced {
         cost: x.cost,
-        what: e as u8,
+        what: e,
     })
 }
 
@@ -58,11 +61,5 @@ pub(crate) fn best_entry<P: Cost>(row: &[Option<Entry<P::Cell>>]) -> Option<Reac
     requires { length row.now ≤ 256 }
     ensures { as_reached P.Cost.held result ≡ least_of (kind_of P.Cost) (length row.now) (row_in P.Cost.held row.now) }
 {
-    cheapest::<P, u8, _>(row.len(), |e|
-        requires below { e < length row.now }
-        requires small { e < 256 }
-        ensures { as_reached P.Cost.held result ≡ tag e (row_in P.Cost.held row.entry.now e) }
-    {
-        tagged::<P>(row[e], e)
-    })
+    cheapest::<P, u8, _>(row.len(), |e| tagged::<P>(cell(row, e), e as u8))
 }

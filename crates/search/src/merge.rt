@@ -62,16 +62,15 @@ fn hung<P: Cost>(
     requires room { (k : ℕ) → k < j → HasRoom (slice_index_or own.now k None) }
     ensures { as_joined P.Cost.held result ≡ cheapest_of (kind_of P.Cost) j (λ e. with_leg (kind_of P.Cost) false (line_in P.Cost.held own.now (j - suc e)) (tag e (row_in P.Cost.held child.now e))) }
 {
-    cheapest::<P, Chosen, _>(j, |e|
+    let hung_at = |e|
         requires small { e < 256 }
         requires below { e < j }
         requires own { j ≤ length own.now }
         requires other { e < length child.now }
         requires room { HasRoom (slice_index_or own.now (j - 1 - e) None) }
         ensures { as_joined P.Cost.held result ≡ with_leg (kind_of P.Cost) false (line_in P.Cost.held own.entry.now (j - suc e)) (tag e (row_in P.Cost.held child.entry.now e)) }
-    {
-        join::<P>(false, own[j - 1 - e], tagged::<P>(child[e], e))
-    })
+    { join::<P>(false, own[j - 1 - e], tagged::<P>(child[e], e as u8)) };
+    cheapest::<P, Chosen, _>(j, hung_at)
 }
 
 // The cell of the length `j` in the table's row `own`, with the child of the row `child` joined to it. The row `low` has

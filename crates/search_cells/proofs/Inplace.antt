@@ -6,7 +6,7 @@ use Rattle.search_cells.specs.declared.Chosen.{Chosen}
 use Rattle.search_cells.specs.declared.Priced.{Priced as Kept}
 use Rattle.search_theory.specs.Costs.{Kind}
 use Rattle.search_theory.specs.Entries.{Priced, Row, cheaper}
-use Rattle.search_theory.specs.Joining.{Branch, Choice, tagged, join, charged, best_entry, headed, step, Table}
+use Rattle.search_theory.specs.Joining.{Branch, Choice, tagged, join, charged, best_entry, step, Table}
 use Rattle.search_cells.proofs.Parts.{next_row, last_row, no_last_row}
 use Rattle.search_cells.proofs.Turns.{cheapest_same}
 

@@ -25,4 +25,4 @@ returns g c =
     let limit = c.args.limit.value in
     let t = five_rows (table_of m.held c.args.table.now (limit + 1)) in
     λ e l. c.loop-e.invariant e (omega arith) ∙ ap (λ x. cheaper o (plain o c.args.spare t e) (cond (eqb e 0) x None)) c.trunk-other.ensures
-        ∙ finish_at o limit c.args.free c.args.spare (kth_price m.nothing m.plus c.args.price) t e l
+    ∙ finish_at o limit c.args.free c.args.spare (kth_price m.nothing m.plus c.args.price) t e l

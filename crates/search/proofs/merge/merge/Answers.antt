@@ -1,5 +1,5 @@
 -- What is written of the table is not read again: the rows below are joined from what stood there.
-use Rattle.std.proofs.Common.{◌≡◌, ℕ, suc, ◌+◌, ◌-◌, ◌*◌, ◌<◌, ◌≤◌, List, ◌++◌, length, get_or, take, drop, Option, None, sym, refl, ap, ◌∙◌, subst, inl, inr, suc-mul, eq-or-lt_of_le, length-take-le, length-append, arith}
+use Rattle.std.proofs.Common.{◌≡◌, ℕ, suc, ◌+◌, ◌-◌, ◌*◌, ◌<◌, ◌≤◌, ◌++◌, length, get_or, take, drop, None, sym, ap, ◌∙◌, subst, inl, inr, suc-mul, eq-or-lt_of_le, length-take-le, arith}
 use Rattle.length_rule.specs.Costs.{kth_price}
 use Rattle.search_cells.specs.Cells.{as_joined, as_reached, row_in, line_in, table_of, HasRoom, joined_row}
 use Rattle.search_cells.proofs.Inplace.{front_entry, merged_row, row_room, low_room}

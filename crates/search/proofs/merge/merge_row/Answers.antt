@@ -1,5 +1,5 @@
 -- What is written of the row is not read again: the rest of it is joined from what stood there.
-use Rattle.std.proofs.Common.{◌≡◌, ℕ, suc, ◌-◌, ◌<◌, ◌≢◌, length, None, sym, refl, ap, ◌∙◌, subst, arith, get_or-set_other}
+use Rattle.std.proofs.Common.{◌-◌, ◌≢◌, length, None, sym, refl, ap, ◌∙◌, subst, arith, get_or-set_other}
 use Rattle.search_cells.specs.Cells.{as_joined, as_reached, row_in, line_in, HasRoom, joined_row}
 use Rattle.search_cells.proofs.Inplace.{joined_row_same, back_more}
 use Rattle.search_theory.specs.Costs.{kind_of}

@@ -1,5 +1,5 @@
 -- One child more of the family is one row more in the table.
-use Rattle.std.proofs.Common.{◌≡◌, ℕ, ◌+◌, ◌*◌, ◌<◌, ◌≤◌, map, length, get_or, take, None, sym, ap, ◌∙◌, subst, arith}
+use Rattle.std.proofs.Common.{◌≡◌, ◌+◌, ◌*◌, ◌<◌, ◌≤◌, map, length, get_or, None, sym, ap, ◌∙◌, subst, arith}
 use Rattle.std.proofs.lemmas.List.{get_or-take}
 use Rattle.length_rule.specs.Costs.{kth_price}
 use Rattle.search_cells.specs.Cells.{rows_of}
@@ -47,4 +47,4 @@ returns g c =
     let limit = c.args.limit.value in
     let all : c.loop-k.k-index ≡ c.args.family.now.count = omega (arith, c.as_slice-k-items.ensures.counted) in
     λ h j a b. c.loop-k.invariant h j a b
-        ∙ ap (λ n. table (kind_of m) limit (kth_price m.nothing m.plus c.args.price) (map (rows_of m.held c.args.rows.now (limit + 1)) (last_first (λ k. k) 0 c.args.family.now.items n)) h j) all
+    ∙ ap (λ n. table (kind_of m) limit (kth_price m.nothing m.plus c.args.price) (map (rows_of m.held c.args.rows.now (limit + 1)) (last_first (λ k. k) 0 c.args.family.now.items n)) h j) all

@@ -6,7 +6,7 @@ use Rattle.search_cells.proofs.Turns.{cheapest_same}
 use Rattle.search_theory.specs.Costs.{kind_of}
 use Rattle.search_theory.specs.Entries.{cheapest}
 use Rattle.search_theory.specs.Joining.{charged}
-use Rattle.search.proofs.finish.fn.driven.cheapest.Goals as goal
+use Rattle.search.proofs.finish.fn.driven.row_driven.Goals as goal
 
 pub nth_row-requires : goal.nth_row-requires
 nth_row-requires g c = omega (arith, rows_apart c.args.h 5 (c.captures.limit.value + 1) c.requires.below)

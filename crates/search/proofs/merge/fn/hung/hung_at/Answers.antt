@@ -3,7 +3,7 @@ use Rattle.std.proofs.lemmas.List.{get_or_read}
 use Rattle.search_cells.specs.Cells.{as_joined, as_chosen, as_reached, line_in, HasRoom}
 use Rattle.search_theory.specs.Costs.{kind_of}
 use Rattle.search_theory.specs.Joining.{tagged, join}
-use Rattle.search.proofs.merge.fn.hung.cheapest.Goals as goal
+use Rattle.search.proofs.merge.fn.hung.hung_at.Goals as goal
 
 pub join-requires : goal.join-requires
 join-requires g c =
