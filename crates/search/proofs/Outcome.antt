@@ -1,5 +1,5 @@
 -- What the rows and the handed marks come to: the plan that is chosen.
-use Rattle.std.proofs.Common.{◌≡◌, ℕ, suc, ◌+◌, ◌<◌, ◌≤◌, true, false, cond, eqb, ltb, List, [], ◌∷◌, length, get_or, is_ok, Some, None, Ok, Err, Option, Result, sym, refl, ap, ◌∙◌, subst, arith}
+use Rattle.std.proofs.Common.{◌≡◌, ℕ, suc, ◌+◌, ◌*◌, ◌<◌, ◌≤◌, true, false, cond, eqb, ltb, List, [], ◌∷◌, length, get_or, is_ok, Some, None, Ok, Err, Option, Result, sym, refl, ap, ◌∙◌, subst, arith}
 use Rattle.std.proofs.lemmas.List.{ext_get_or}
 use Rattle.std.proofs.lemmas.Bool.Decides.{nat_tests}
 use Rattle.refusal.specs.Told.{told_by}
@@ -8,9 +8,9 @@ use Rattle.best_plan.specs.Chosen.{problem, mark_of, marks_of, marked, chosen}
 use Rattle.best_plan.specs.Cheapest.{AnswersBest, HangsTogether}
 use Rattle.best_plan.proofs.Alone.{chosen_alone}
 use Rattle.best_plan.proofs.Marks.{marks_length, marks_at}
-use Rattle.search_cells.specs.declared.Entry.{Entry}
-use Rattle.search_cells.specs.declared.Reach.{Reach}
-use Rattle.search_cells.specs.Cells.{as_reached, row_at, rows_of, rows_within, Searchable}
+use Rattle.search_cells.specs.declared.Chosen.{Chosen}
+use Rattle.search_cells.specs.declared.Priced.{Priced as Kept}
+use Rattle.search_cells.specs.Cells.{as_reached, row_in, rows_of, rows_within, Searchable}
 use Rattle.search_cells.proofs.Handing.{rows_within_row, first_entry, rows_within_long}
 use Rattle.search_theory.specs.Costs.{Kind}
 use Rattle.search_theory.specs.Entries.{Priced}
@@ -24,7 +24,7 @@ use Rattle.search.specs.declared.fault.SearchFault.TheVariants.{Cells, Marks}
 use Rattle.search.specs.Answers.{cells_needed, told, search_refusal, cost_of, search_answer, marks_of_chosen, marks_after, TellsBest, RestsOnNet}
 use Rattle.search.specs.Rows.{handed_mark, BranchForEachChild}
 
-module _ {C V : Type 0} (o : Kind C) (held : V → C) (limit : ℕ) (rs : List Record) (spare : List ℕ) (prices : List (Option C)) (tree : Searchable rs) (xs : List (Option (Entry V)))
+module _ {C V : Type 0} (o : Kind C) (held : V → C) (limit : ℕ) (rs : List Record) (spare : List ℕ) (prices : List (Option C)) (tree : Searchable rs) (xs : List (Option (Kept V Chosen)))
     (rows : (i e : ℕ) → i < length rs → e ≤ limit → rows_of held xs (limit + 1) i e ≡ row o (problem o limit rs spare prices) i e) where
   abbrev N : Problem C
   N = problem o limit rs spare prices
@@ -35,26 +35,28 @@ module _ {C V : Type 0} (o : Kind C) (held : V → C) (limit : ℕ) (rs : List R
   pub whole_choices : BranchForEachChild rs (rows_within held xs limit)
   whole_choices = rows_within_long o N root held xs rows
 
-  first_is : (a : Option (Reach V)) → as_reached held a ≡ best_entry o (limit + 1) (row_at held xs 0) → as_reached held a ≡ best_entry o (suc limit) (row o N 0)
-  first_is a e = e ∙ first_entry o N root held xs rows
+  -- where these cells are the first row's
+  module _ (firsts : List (Option (Kept V Chosen))) (lie : (e : ℕ) → e ≤ limit → get_or firsts e None ≡ get_or xs (0 * (limit + 1) + e) None) where
+    first_is : (a : Option (Kept V ℕ)) → as_reached held a ≡ best_entry o (limit + 1) (row_in held firsts) → as_reached held a ≡ best_entry o (suc limit) (row o N 0)
+    first_is a e = e ∙ first_entry o N root held xs rows firsts lie
 
-  pub none_chosen : as_reached held None ≡ best_entry o (limit + 1) (row_at held xs 0) → None ≡ chosen o limit rs spare prices
-  none_chosen e = ap (λ b. marked (length rs) (answered N (row o N) b)) (first_is None e)
+    pub none_chosen : as_reached held None ≡ best_entry o (limit + 1) (row_in held firsts) → None ≡ chosen o limit rs spare prices
+    none_chosen e = ap (λ b. marked (length rs) (answered N (row o N) b)) (first_is None e)
 
-  pub some_chosen : (x : Reach V) (ms : List ℕ) → as_reached held (Some x) ≡ best_entry o (limit + 1) (row_at held xs 0) → length ms ≡ length rs
-      → ((k : ℕ) → k < length rs → get_or ms k 0 ≡ handed_mark N (rows_within held xs limit) x.length k)
-      → Some (record { cost = held x.cost; what = ms }) ≡ chosen o limit rs spare prices
-  some_chosen x ms e long marks =
-      ap (λ w. Some (record { cost = held x.cost; what = w })) same
-      ∙ ap (λ b. marked (length rs) (answered N (row o N) b)) (first_is (Some x) e)
-    where
-      same : ms ≡ marks_of (layout_of N (row o N) (handed_down N (row o N) x.length (length rs))) (length rs)
-      same = ext_get_or 0 ms (marks_of (layout_of N (row o N) (handed_down N (row o N) x.length (length rs))) (length rs))
-          (long ∙ sym (marks_length (layout_of N (row o N) (handed_down N (row o N) x.length (length rs))) (length rs)))
-          (λ k h. let inside : k < length rs = omega arith in
-          marks k inside
-          ∙ ap mark_of (layout_same N root (rows_within held xs limit) (row o N) (rows_within_row o N root held xs rows) x.length k inside)
-          ∙ sym (marks_at (layout_of N (row o N) (handed_down N (row o N) x.length (length rs))) (length rs) k inside))
+    pub some_chosen : (x : Kept V ℕ) (ms : List ℕ) → as_reached held (Some x) ≡ best_entry o (limit + 1) (row_in held firsts) → length ms ≡ length rs
+        → ((k : ℕ) → k < length rs → get_or ms k 0 ≡ handed_mark N (rows_within held xs limit) x.what k)
+        → Some (record { cost = held x.cost; what = ms }) ≡ chosen o limit rs spare prices
+    some_chosen x ms e long marks =
+        ap (λ w. Some (record { cost = held x.cost; what = w })) same
+        ∙ ap (λ b. marked (length rs) (answered N (row o N) b)) (first_is (Some x) e)
+      where
+        same : ms ≡ marks_of (layout_of N (row o N) (handed_down N (row o N) x.what (length rs))) (length rs)
+        same = ext_get_or 0 ms (marks_of (layout_of N (row o N) (handed_down N (row o N) x.what (length rs))) (length rs))
+            (long ∙ sym (marks_length (layout_of N (row o N) (handed_down N (row o N) x.what (length rs))) (length rs)))
+            (λ k h. let inside : k < length rs = omega arith in
+            marks k inside
+            ∙ ap mark_of (layout_same N root (rows_within held xs limit) (row o N) (rows_within_row o N root held xs rows) x.what k inside)
+            ∙ sym (marks_at (layout_of N (row o N) (handed_down N (row o N) x.what (length rs))) (length rs) k inside))
 
 -- what the clauses of a search say, of these work cells and marks that were lent
 pub record Searched {C V : Type 0} (o : Kind C) (limit : ℕ) (rs : List Record) (spare : List ℕ) (prices : List (Option C)) (cells cells_after : List V) (before after : List ℕ) (r : Result (Option C) SearchFault) : Type 0 where

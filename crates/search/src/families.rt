@@ -1,7 +1,6 @@
 // Which indices hang from which, found in one pass over the records.
-ghost use Rattle.std.specs.Prelude.{◌≡◌, ◌<◌, ◌∷◌};
 ghost use Rattle.net.specs.Checked.{records_of};
-ghost use Rattle.search_cells.specs.Families.{members, TellsFamilies, TellsRanks};
+ghost use Rattle.search_cells.specs.Families.{TellsFamilies, TellsRanks};
 
 use net::records::Route;
 use search_cells::Family;
@@ -12,21 +11,8 @@ pub(crate) const MOST: usize = 256;
 // The family of an index that nothing hangs from.
 pub(crate) const NO_CHILDREN: Family = Family {
     count: 0,
-    at: [0; 4],
+    items: [0; 4],
 };
-
-// The family with one child more.
-fn with_child(family: Family, k: u8) -> Family
-    requires { family.count < 4 }
-    ensures { members result ≡ k ∷ members family }
-{
-    let mut at = family.at;
-    at[family.count as usize] = k;
-    Family {
-        count: family.count + 1,
-        at,
-    }
-}
 
 // The children of each index, and for each index how many of its siblings stand before it.
 pub(crate) fn link(route: &Route) -> ([Family; MOST], [u8; MOST])
@@ -40,7 +26,7 @@ pub(crate) fn link(route: &Route) -> ([Family; MOST], [u8; MOST])
         let parent = record.parent as usize;
         let family = families[parent];
         ranks[k] = family.count;
-        families[parent] = with_child(family, k as u8);
+        families[parent] = family.push(k as u8);
     }
     (families, ranks)
 }

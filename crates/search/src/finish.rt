@@ -1,88 +1,72 @@
 // The row of an index, from the table of its children.
-ghost use Rattle.std.specs.Prelude.{◌≡◌, ℕ, suc, ◌+◌, ◌-◌, ◌*◌, ◌<◌, ◌≤◌, true, false, length, if◌then◌else◌, Some, None, nat_eq, slice_index_or};
+ghost use Rattle.std.specs.Prelude.{◌≡◌, ℕ, suc, ◌+◌, ◌-◌, ◌*◌, ◌<◌, ◌≤◌, true, false, length, if◌then◌else◌, Some, None, nat_eq};
 ghost use Rattle.length_rule.specs.Costs.{kth_price};
-ghost use Rattle.search_theory.specs.Entries.{cheaper as less, cheapest};
+ghost use Rattle.search_theory.specs.Entries.{cheaper as less, cheapest as cheapest_of};
 ghost use Rattle.search_theory.specs.Joining.{charged as paid, chosen as decided, plain, trunked, finish as finished};
-ghost use Rattle.search_cells.specs.Cells.{as_joined, as_chosen, row_at, table_at, table_of, five_rows};
+ghost use Rattle.search_cells.specs.Cells.{as_joined, as_chosen, row_in, line_in, table_of, five_rows};
 ghost use Rattle.search_theory.specs.Costs.{kind_of};
 
-use crate::least::cheaper;
+use crate::least::{cheaper, cheapest};
 use crate::merge::{ROWS, charged};
-use crate::places::place;
+use crate::places::{cell, nth_row};
 use cost::Cost;
+use net::limit::Limit;
 use plan_cost::kth_price;
-use search_cells::Entry;
+use search_cells::{Chosen, Entry, Priced};
 
 fn chosen<P: Cost>(trunk: bool, t: Option<Entry<P::Cell>>) -> Option<Entry<P::Cell>>
     ensures { as_chosen P.Cost.held result ≡ decided trunk (as_joined P.Cost.held t) }
 {
-    match t {
-        None => None,
-        Some(x) => Some(Entry {
-            cost: x.cost,
-            trunk,
-            count: x.count,
-            legs: x.legs,
-        }),
-    }
+    t.map(|x| Priced {
+        what: Chosen { trunk, ..x.what },
+        ..x
+    })
 }
 
-// The cheapest of the length `e` in the first `rows` rows of the table at `base`.
+// The cheapest of the length `e` in the first `rows` rows of the table.
 fn column<P: Cost>(
-    cells: &[Option<Entry<P::Cell>>],
-    base: usize,
-    limit: u8,
+    table: &[Option<Entry<P::Cell>>],
+    limit: Limit,
     rows: usize,
-    e: u8,
+    e: usize,
 ) -> Option<Entry<P::Cell>>
-    requires within { base + 5 * (limit + 1) ≤ length cells.now }
+    requires within { 5 * (limit.value + 1) ≤ length table.now }
     requires most { rows ≤ 5 }
-    requires reach { e ≤ limit }
-    ensures { as_joined P.Cost.held result ≡ cheapest (kind_of P.Cost) rows (λ h. table_of P.Cost.held cells.now base (limit + 1) h e) }
+    requires reach { e ≤ limit.value }
+    ensures { as_joined P.Cost.held result ≡ cheapest_of (kind_of P.Cost) rows (λ h. table_of P.Cost.held table.now (limit.value + 1) h e) }
 {
-    let mut best: Option<Entry<P::Cell>> = None;
-    for h in 0..rows {
-        let cell = cells[place(base, limit, ROWS, h) + e as usize];
-        best = cheaper::<P>(best, cell);
-    }
-    best
+    cheapest::<P, Chosen, _>(rows, |h| cell(nth_row(table, limit, h), e))
 }
 
-// The cheapest of the table's row at `at`.
-fn level<P: Cost>(cells: &[Option<Entry<P::Cell>>], at: usize, limit: u8) -> Option<Entry<P::Cell>>
-    requires { at + limit < length cells.now }
-    ensures { as_joined P.Cost.held result ≡ cheapest (kind_of P.Cost) (suc limit) (table_at P.Cost.held cells.now at) }
+// The cheapest of a table's row.
+fn level<P: Cost>(row: &[Option<Entry<P::Cell>>]) -> Option<Entry<P::Cell>>
+    ensures { as_joined P.Cost.held result ≡ cheapest_of (kind_of P.Cost) (length row.now) (line_in P.Cost.held row.now) }
 {
-    let width = limit as usize + 1;
-    let mut best: Option<Entry<P::Cell>> = None;
-    for j in 0..width {
-        let cell = cells[at + j];
-        best = cheaper::<P>(best, cell);
-    }
-    best
+    cheapest::<P, Chosen, _>(row.len(), |j| cell(row, j))
 }
 
-// The cheapest of the first `rows` rows of the table at `base`, with a buffer more.
+// The cheapest of the first `rows` rows of the table, with a buffer more.
 fn driven<P: Cost>(
-    cells: &[Option<Entry<P::Cell>>],
-    base: usize,
-    limit: u8,
+    table: &[Option<Entry<P::Cell>>],
+    limit: Limit,
     rows: usize,
     price: Option<P>,
 ) -> Option<Entry<P::Cell>>
-    requires within { base + 5 * (limit + 1) ≤ length cells.now }
+    requires within { 5 * (limit.value + 1) ≤ length table.now }
     requires most { rows ≤ 5 }
-    ensures { as_joined P.Cost.held result ≡ cheapest (kind_of P.Cost) rows (λ h. paid (kind_of P.Cost) (kth_price P.Cost.nothing P.Cost.plus price h) (cheapest (kind_of P.Cost) (suc limit) (λ j. table_of P.Cost.held cells.now base (limit + 1) h j))) }
+    ensures { as_joined P.Cost.held result ≡ cheapest_of (kind_of P.Cost) rows (λ h. paid (kind_of P.Cost) (kth_price P.Cost.nothing P.Cost.plus price h) (cheapest_of (kind_of P.Cost) (suc limit.value) (λ j. table_of P.Cost.held table.now (limit.value + 1) h j))) }
 {
-    let mut best: Option<Entry<P::Cell>> = None;
-    for h in 0..rows {
-        let fee = kth_price::<P>(price, h);
-        best = cheaper::<P>(
-            best,
-            charged::<P>(fee, level::<P>(cells, place(base, limit, ROWS, h), limit)),
-        );
-    }
-    best
+    let row_driven = |h|
+        requires within { 5 * (limit.value + 1) ≤ length table.now }
+        requires below { h < 5 }
+        ensures { as_joined P.Cost.held result ≡ paid (kind_of P.Cost) (kth_price P.Cost.nothing P.Cost.plus price h) (cheapest_of (kind_of P.Cost) (suc limit.value) (λ j. table_of P.Cost.held table.entry.now (limit.value + 1) h j)) }
+    {
+        charged::<P>(
+            kth_price::<P>(price, h),
+            level::<P>(nth_row(table, limit, h)),
+        )
+    };
+    cheapest::<P, Chosen, _>(rows, row_driven)
 }
 
 // No table has more rows.
@@ -96,21 +80,17 @@ fn most(n: usize) -> usize
 
 // The cheapest with a trunk buffer, if `free`.
 fn trunk<P: Cost>(
-    cells: &[Option<Entry<P::Cell>>],
-    base: usize,
-    limit: u8,
+    table: &[Option<Entry<P::Cell>>],
+    limit: Limit,
     free: bool,
     spare: u16,
     price: Option<P>,
 ) -> Option<Entry<P::Cell>>
-    requires within { base + 5 * (limit + 1) ≤ length cells.now }
-    ensures { as_chosen P.Cost.held result ≡ (if free then trunked (kind_of P.Cost) limit spare (kth_price P.Cost.nothing P.Cost.plus price) (five_rows (table_of P.Cost.held cells.now base (limit + 1))) else None) }
+    requires within { 5 * (limit.value + 1) ≤ length table.now }
+    ensures { as_chosen P.Cost.held result ≡ (if free then trunked (kind_of P.Cost) limit.value spare (kth_price P.Cost.nothing P.Cost.plus price) (five_rows (table_of P.Cost.held table.now (limit.value + 1))) else None) }
 {
     if free {
-        chosen::<P>(
-            true,
-            driven::<P>(cells, base, limit, most(spare as usize), price),
-        )
+        chosen::<P>(true, driven::<P>(table, limit, most(spare as usize), price))
     } else {
         None
     }
@@ -118,48 +98,42 @@ fn trunk<P: Cost>(
 
 // The cheapest of the length `e`; `other` has the length 0.
 fn best<P: Cost>(
-    cells: &[Option<Entry<P::Cell>>],
-    base: usize,
-    limit: u8,
+    table: &[Option<Entry<P::Cell>>],
+    limit: Limit,
     spare: u16,
-    e: u8,
+    e: usize,
     other: Option<Entry<P::Cell>>,
 ) -> Option<Entry<P::Cell>>
-    requires within { base + 5 * (limit + 1) ≤ length cells.now }
-    requires reach { e ≤ limit }
-    ensures { as_chosen P.Cost.held result ≡ less (kind_of P.Cost) (plain (kind_of P.Cost) spare (five_rows (table_of P.Cost.held cells.now base (limit + 1))) e) (if nat_eq e 0 then as_chosen P.Cost.held other else None) }
+    requires within { 5 * (limit.value + 1) ≤ length table.now }
+    requires reach { e ≤ limit.value }
+    ensures { as_chosen P.Cost.held result ≡ less (kind_of P.Cost) (plain (kind_of P.Cost) spare (five_rows (table_of P.Cost.held table.now (limit.value + 1))) e) (if nat_eq e 0 then as_chosen P.Cost.held other else None) }
 {
     let own = chosen::<P>(
         false,
-        column::<P>(cells, base, limit, most(spare as usize + 1), e),
+        column::<P>(table, limit, most(spare as usize + 1), e),
     );
     if e == 0 {
-        cheaper::<P>(own, other)
+        cheaper::<P, Chosen>(own, other)
     } else {
         own
     }
 }
 
-// The row at `at`, from the table at `base`. There may be a trunk buffer if `free`.
+// The row of an index, from the table of its children. There may be a trunk buffer if `free`.
 pub(crate) fn finish<P: Cost>(
-    cells: &mut [Option<Entry<P::Cell>>],
-    base: usize,
-    at: usize,
-    limit: u8,
+    table: &[Option<Entry<P::Cell>>],
+    row: &mut [Option<Entry<P::Cell>>],
+    limit: Limit,
     free: bool,
     spare: u16,
     price: Option<P>,
 )
-    requires fits { limit < 255 }
-    requires within { base + 5 * (limit + 1) ≤ length cells.old }
-    requires apart { at + limit < base }
-    ensures row { (e : ℕ) → e ≤ limit → row_at P.Cost.held cells.new at e ≡ finished (kind_of P.Cost) limit free spare (kth_price P.Cost.nothing P.Cost.plus price) (five_rows (table_of P.Cost.held cells.old base (limit + 1))) e }
-    ensures before { (k : ℕ) → k < at → slice_index_or cells.new k None ≡ slice_index_or cells.old k None }
-    ensures after { (k : ℕ) → at + limit < k → slice_index_or cells.new k None ≡ slice_index_or cells.old k None }
+    requires within { 5 * (limit.value + 1) ≤ length table.now }
+    requires wide { length row.old ≡ limit.value + 1 }
+    ensures { (e : ℕ) → e ≤ limit.value → row_in P.Cost.held row.new e ≡ finished (kind_of P.Cost) limit.value free spare (kth_price P.Cost.nothing P.Cost.plus price) (five_rows (table_of P.Cost.held table.now (limit.value + 1))) e }
 {
-    let other = trunk::<P>(cells, base, limit, free, spare, price);
-    for e in 0..limit + 1 {
-        let cell = best::<P>(cells, base, limit, spare, e, other);
-        cells[at + e as usize] = cell;
+    let other = trunk::<P>(table, limit, free, spare, price);
+    for (e, cell) in row.iter_mut().enumerate() {
+        *cell = best::<P>(table, limit, spare, e, other);
     }
 }

@@ -1,21 +1,21 @@
-// The cheaper of two entries, and the cheapest entry of a row.
-ghost use Rattle.std.specs.Prelude.{◌≡◌, ℕ, ◌+◌, ◌<◌, ◌≤◌, length};
-ghost use Rattle.search_theory.specs.Entries.{cheaper as less};
+// The cheapest of several, and the cheapest entry of a row.
+ghost use Rattle.std.specs.Prelude.{◌≡◌, ℕ, ◌<◌, ◌≤◌, length};
 ghost use Rattle.search_theory.specs.Joining.{tagged as tag, best_entry as least_of};
-ghost use Rattle.search_cells.specs.Cells.{as_joined, as_chosen, as_reached, row_at};
+ghost use Rattle.search_cells.specs.Cells.{as_chosen, as_reached, row_in, lesser, LeastOf};
 ghost use Rattle.search_theory.specs.Costs.{kind_of};
 
+use crate::places::cell;
 use cost::Cost;
-use search_cells::{Entry, Reach};
+use search_cells::{Entry, Priced, Reach};
 
 // The cheaper of two, the first where they tie.
-pub(crate) fn cheaper<P: Cost>(
-    a: Option<Entry<P::Cell>>,
-    b: Option<Entry<P::Cell>>,
-) -> Option<Entry<P::Cell>>
-    ensures tables { as_joined P.Cost.held result ≡ less (kind_of P.Cost) (as_joined P.Cost.held a) (as_joined P.Cost.held b) }
-    ensures rows { as_chosen P.Cost.held result ≡ less (kind_of P.Cost) (as_chosen P.Cost.held a) (as_chosen P.Cost.held b) }
+pub(crate) fn cheaper<P: Cost, W: Copy>(
+    a: Option<Priced<P::Cell, W>>,
+    b: Option<Priced<P::Cell, W>>,
+) -> Option<Priced<P::Cell, W>>
+    ensures { result ≡ lesser (kind_of P.Cost) P.Cost.held a b }
 {
+    // Matched one after the other: a `match (a, b)` copies both, and the search is a tenth slower.
     match a {
         None => b,
         Some(x) => match b {
@@ -31,51 +31,35 @@ pub(crate) fn cheaper<P: Cost>(
     }
 }
 
+// The cheapest of what `cell` answers at 0 to `n` - 1, the first of those that tie.
+pub(crate) fn cheapest<P: Cost, W: Copy, F: Fn(usize) -> Option<Priced<P::Cell, W>>>(
+    n: usize,
+    cell: F,
+) -> Option<Priced<P::Cell, W>>
+    requires { (k : ℕ) → k < n → F.pre cell k }
+    ensures { LeastOf (kind_of P.Cost) P.Cost.held n (λ k x. F.post cell k x) result }
+{
+    let mut best: Option<Priced<P::Cell, W>> = None;
+    for k in 0..n {
+        best = cheaper::<P, W>(best, cell(k));
+    }
+    best
+}
+
 // What a row's cell says of the length at which it stands.
 pub(crate) fn tagged<P: Cost>(cell: Option<Entry<P::Cell>>, e: u8) -> Option<Reach<P::Cell>>
     ensures { as_reached P.Cost.held result ≡ tag e (as_chosen P.Cost.held cell) }
 {
-    match cell {
-        None => None,
-        Some(x) => Some(Reach {
-            cost: x.cost,
-            length: e,
-        }),
-    }
+    cell.map(|x| Priced {
+        cost: x.cost,
+        what: e,
+    })
 }
 
-// The cheaper of two, the first where they tie.
-fn nearer<P: Cost>(a: Option<Reach<P::Cell>>, b: Option<Reach<P::Cell>>) -> Option<Reach<P::Cell>>
-    ensures { as_reached P.Cost.held result ≡ less (kind_of P.Cost) (as_reached P.Cost.held a) (as_reached P.Cost.held b) }
+// The cheapest cell of a row.
+pub(crate) fn best_entry<P: Cost>(row: &[Option<Entry<P::Cell>>]) -> Option<Reach<P::Cell>>
+    requires { length row.now ≤ 256 }
+    ensures { as_reached P.Cost.held result ≡ least_of (kind_of P.Cost) (length row.now) (row_in P.Cost.held row.now) }
 {
-    match a {
-        None => b,
-        Some(one) => match b {
-            None => Some(one),
-            Some(other) => {
-                if P::from_cell(one.cost).at_most(P::from_cell(other.cost)) {
-                    Some(one)
-                } else {
-                    Some(other)
-                }
-            }
-        },
-    }
-}
-
-// The cheapest of the first `count` cells of the row at `at`.
-pub(crate) fn best_entry<P: Cost>(
-    cells: &[Option<Entry<P::Cell>>],
-    at: usize,
-    count: u8,
-) -> Option<Reach<P::Cell>>
-    requires { at + count ≤ length cells.now }
-    ensures { as_reached P.Cost.held result ≡ least_of (kind_of P.Cost) count (row_at P.Cost.held cells.now at) }
-{
-    let mut best: Option<Reach<P::Cell>> = None;
-    for e in 0..count {
-        let cell = cells[at + e as usize];
-        best = nearer::<P>(best, tagged::<P>(cell, e));
-    }
-    best
+    cheapest::<P, u8, _>(row.len(), |e| tagged::<P>(cell(row, e), e as u8))
 }

@@ -10,6 +10,7 @@ ghost use Rattle.best_plan.specs.Chosen.{problem, mark_of};
 ghost use Rattle.search.specs.Rows.{BranchForEachChild, BranchForEachChild-prop, handed_mark};
 
 use crate::families::MOST;
+use crate::places::{cell, nth_row};
 use cost::Cost;
 use net::limit::Limit;
 use net::records::Route;
@@ -33,9 +34,7 @@ impl<'a, P: Cost> Rows<'a, P> {
         requires { k < length (records_of self.now.route.now) }
         ensures { as_chosen P.Cost.held result ≡ rows_within P.Cost.held self.now.cells.now self.now.limit.value k e }
     {
-        let width = self.limit.figure() + 1;
-        let row = &self.cells[k * width..(k + 1) * width];
-        row.get(e as usize).copied().flatten()
+        cell(nth_row(self.cells, self.limit, k), e as usize)
     }
 
     // What the parent of `k`, which the length `e` enters, chose for it.
@@ -48,7 +47,7 @@ impl<'a, P: Cost> Rows<'a, P> {
         let Some(x) = self.get(parent, e) else {
             return NO_LEG;
         };
-        let legs = x.legs;
+        let legs = x.what.legs.items;
         legs[self.ranks[k] as usize]
     }
 
@@ -57,7 +56,7 @@ impl<'a, P: Cost> Rows<'a, P> {
         requires { k < length (records_of self.now.route.now) }
         ensures { result ≡ (what_or no_choice (rows_within P.Cost.held self.now.cells.now self.now.limit.value k e)).trunk }
     {
-        self.get(k, e).is_some_and(|x| x.trunk)
+        self.get(k, e).is_some_and(|x| x.what.trunk)
     }
 
     // The mark of each index, where the length `e` hangs at the driver.

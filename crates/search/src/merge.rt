@@ -1,27 +1,20 @@
 // One child more, joined to a table of cells in place.
-ghost use Rattle.std.specs.Prelude.{◌≡◌, ℕ, suc, ◌+◌, ◌-◌, ◌*◌, ◌<◌, ◌≤◌, true, false, ◌∷◌, length, Some, None, slice_index_or};
+ghost use Rattle.std.specs.Prelude.{◌≡◌, ℕ, suc, ◌+◌, ◌-◌, ◌*◌, ◌<◌, ◌≤◌, true, false, length, Some, None, slice_index_or};
 ghost use Rattle.length_rule.specs.Costs.{kth_price};
-ghost use Rattle.search_theory.specs.Entries.{cheaper as less, cheapest};
+ghost use Rattle.search_theory.specs.Entries.{cheapest as cheapest_of};
 ghost use Rattle.search_theory.specs.Joining.{tagged as tag, join as with_leg, charged as paid, step};
-ghost use Rattle.search_cells.specs.Cells.{as_joined, as_chosen, as_reached, row_at, table_at, listed, HasRoom, joined_row, table_of};
+ghost use Rattle.search_cells.specs.Cells.{as_joined, as_chosen, as_reached, row_in, line_in, HasRoom, joined_row, table_of};
 ghost use Rattle.search_theory.specs.Costs.{kind_of};
 
-use crate::least::{best_entry, cheaper, tagged};
+use crate::least::{best_entry, cheaper, cheapest, tagged};
+use crate::places::{cell, last_row, width};
 use cost::Cost;
+use net::limit::Limit;
 use plan_cost::kth_price;
-use search_cells::{Entry, Leg, Reach};
+use search_cells::{Chosen, Entry, Leg, Priced, Reach};
 
 // The most head buffers that an index can have at its children, and none: the rows of a table.
 pub(crate) const ROWS: usize = 5;
-
-fn push(legs: [Leg; 4], count: u8, leg: Leg) -> [Leg; 4]
-    requires { count < 4 }
-    ensures { listed result (count + 1) ≡ record { head = leg.head; entering = leg.entering } ∷ listed legs count }
-{
-    let mut legs = legs;
-    legs[count as usize] = leg;
-    legs
-}
 
 // `t` with the child of `r` joined to it.
 fn join<P: Cost>(
@@ -32,151 +25,121 @@ fn join<P: Cost>(
     requires { HasRoom t }
     ensures { as_joined P.Cost.held result ≡ with_leg (kind_of P.Cost) head (as_joined P.Cost.held t) (as_reached P.Cost.held r) }
 {
-    match t {
-        None => None,
-        Some(x) => match r {
-            None => None,
-            Some(y) => {
-                let cost = P::from_cell(x.cost).plus(P::from_cell(y.cost)).to_cell();
-                let leg = Leg {
-                    head,
-                    entering: y.length,
-                };
-                let legs = push(x.legs, x.count, leg);
-                Some(Entry {
-                    cost,
-                    trunk: x.trunk,
-                    count: x.count + 1,
-                    legs,
-                })
-            }
+    let (x, y) = (t?, r?);
+    let leg = Leg {
+        head,
+        entering: y.what,
+    };
+    Some(Priced {
+        cost: P::from_cell(x.cost).plus(P::from_cell(y.cost)).to_cell(),
+        what: Chosen {
+            legs: x.what.legs.push(leg),
+            ..x.what
         },
-    }
+    })
 }
 
 // `t` with one site more to pay for.
 pub(crate) fn charged<P: Cost>(price: P, t: Option<Entry<P::Cell>>) -> Option<Entry<P::Cell>>
     ensures { as_joined P.Cost.held result ≡ paid (kind_of P.Cost) price (as_joined P.Cost.held t) }
 {
-    match t {
-        None => None,
-        Some(x) => {
-            let cost = P::from_cell(x.cost).plus(price).to_cell();
-            Some(Entry {
-                cost,
-                trunk: x.trunk,
-                count: x.count,
-                legs: x.legs,
-            })
-        }
-    }
+    t.map(|x| Priced {
+        cost: P::from_cell(x.cost).plus(price).to_cell(),
+        ..x
+    })
 }
 
-// The cheapest way to join the child whose row stands at `child` to the table's row at `at`, with no head buffer and the
-// length `j` in all.
+// The cheapest way to join the child of the row `child` to the table's row `own`, with no head buffer and the length `j` in
+// all.
 fn hung<P: Cost>(
-    cells: &[Option<Entry<P::Cell>>],
-    at: usize,
-    child: usize,
-    j: u8,
+    own: &[Option<Entry<P::Cell>>],
+    child: &[Option<Entry<P::Cell>>],
+    j: usize,
 ) -> Option<Entry<P::Cell>>
-    requires own { at + j ≤ length cells.now }
-    requires other { child + j ≤ length cells.now }
-    requires room { (k : ℕ) → k < j → HasRoom (slice_index_or cells.now (at + k) None) }
-    ensures { as_joined P.Cost.held result ≡ cheapest (kind_of P.Cost) j (λ e. with_leg (kind_of P.Cost) false (table_at P.Cost.held cells.now at (j - suc e)) (tag e (row_at P.Cost.held cells.now child e))) }
+    requires small { j ≤ 256 }
+    requires own { j ≤ length own.now }
+    requires other { j ≤ length child.now }
+    requires room { (k : ℕ) → k < j → HasRoom (slice_index_or own.now k None) }
+    ensures { as_joined P.Cost.held result ≡ cheapest_of (kind_of P.Cost) j (λ e. with_leg (kind_of P.Cost) false (line_in P.Cost.held own.now (j - suc e)) (tag e (row_in P.Cost.held child.now e))) }
 {
-    let mut best: Option<Entry<P::Cell>> = None;
-    for e in 0..j {
-        let own = cells[at + (j - 1 - e) as usize];
-        let other = cells[child + e as usize];
-        best = cheaper::<P>(best, join::<P>(false, own, tagged::<P>(other, e)));
-    }
-    best
+    let hung_at = |e|
+        requires small { e < 256 }
+        requires below { e < j }
+        requires own { j ≤ length own.now }
+        requires other { e < length child.now }
+        requires room { HasRoom (slice_index_or own.now (j - 1 - e) None) }
+        ensures { as_joined P.Cost.held result ≡ with_leg (kind_of P.Cost) false (line_in P.Cost.held own.entry.now (j - suc e)) (tag e (row_in P.Cost.held child.entry.now e)) }
+    { join::<P>(false, own[j - 1 - e], tagged::<P>(child[e], e as u8)) };
+    cheapest::<P, Chosen, _>(j, hung_at)
 }
 
-// The cell of the length `j` in the table's row at `at`, with the child whose row stands at `child` joined to it. The row
-// at `low` has one head buffer less; there is none unless `some`.
+// The cell of the length `j` in the table's row `own`, with the child of the row `child` joined to it. The row `low` has
+// one head buffer less; it is empty where there is none.
 fn joined<P: Cost>(
-    cells: &[Option<Entry<P::Cell>>],
-    at: usize,
-    some: bool,
-    low: usize,
-    child: usize,
-    j: u8,
+    own: &[Option<Entry<P::Cell>>],
+    low: &[Option<Entry<P::Cell>>],
+    child: &[Option<Entry<P::Cell>>],
+    j: usize,
     first: Option<Reach<P::Cell>>,
     price: P,
 ) -> Option<Entry<P::Cell>>
-    requires own { at + j ≤ length cells.now }
-    requires other { child + j ≤ length cells.now }
-    requires lower { some ≡ true → low + j < length cells.now }
-    requires room { (k : ℕ) → k < j → HasRoom (slice_index_or cells.now (at + k) None) }
-    requires roomy { some ≡ true → HasRoom (slice_index_or cells.now (low + j) None) }
-    ensures { as_joined P.Cost.held result ≡ joined_row (kind_of P.Cost) price (table_at P.Cost.held cells.now at) (row_at P.Cost.held cells.now child) some (table_at P.Cost.held cells.now low) (as_reached P.Cost.held first) j }
+    requires small { j ≤ 256 }
+    requires own { j ≤ length own.now }
+    requires other { j ≤ length child.now }
+    requires room { (k : ℕ) → k < j → HasRoom (slice_index_or own.now k None) }
+    requires roomy { HasRoom (slice_index_or low.now j None) }
+    ensures { as_joined P.Cost.held result ≡ joined_row (kind_of P.Cost) price (line_in P.Cost.held own.now) (row_in P.Cost.held child.now) (line_in P.Cost.held low.now) (as_reached P.Cost.held first) j }
 {
-    let own = hung::<P>(cells, at, child, j);
-    if some {
-        let lower = cells[low + j as usize];
-        cheaper::<P>(own, charged::<P>(price, join::<P>(true, lower, first)))
-    } else {
-        own
-    }
+    cheaper::<P, Chosen>(
+        hung::<P>(own, child, j),
+        charged::<P>(price, join::<P>(true, cell(low, j), first)),
+    )
 }
 
-// The table's row at `at` with the child whose row stands at `child` joined to it, from its end on.
+// The table's row `own` with the child of the row `child` joined to it, from its end on, so that what is written is not
+// read again.
 fn merge_row<P: Cost>(
-    cells: &mut [Option<Entry<P::Cell>>],
-    at: usize,
-    some: bool,
-    low: usize,
-    child: usize,
-    limit: u8,
+    own: &mut [Option<Entry<P::Cell>>],
+    low: &[Option<Entry<P::Cell>>],
+    child: &[Option<Entry<P::Cell>>],
     first: Option<Reach<P::Cell>>,
     price: P,
 )
-    requires own { at + limit < length cells.old }
-    requires fits { limit < 255 }
-    requires apart { child + limit < at }
-    requires lower { some ≡ true → low + limit < at }
-    requires room { (k : ℕ) → k ≤ limit → HasRoom (slice_index_or cells.old (at + k) None) }
-    requires roomy { (k : ℕ) → k ≤ limit → some ≡ true → HasRoom (slice_index_or cells.old (low + k) None) }
-    ensures row { (j : ℕ) → j ≤ limit → table_at P.Cost.held cells.new at j ≡ joined_row (kind_of P.Cost) price (table_at P.Cost.held cells.old at) (row_at P.Cost.held cells.old child) some (table_at P.Cost.held cells.old low) (as_reached P.Cost.held first) j }
-    ensures before { (k : ℕ) → k < at → slice_index_or cells.new k None ≡ slice_index_or cells.old k None }
-    ensures after { (k : ℕ) → at + limit < k → slice_index_or cells.new k None ≡ slice_index_or cells.old k None }
+    requires small { length own.old ≤ 256 }
+    requires other { length own.old ≤ length child.now }
+    requires room { (k : ℕ) → k < length own.old → HasRoom (slice_index_or own.old k None) }
+    requires roomy { (k : ℕ) → k < length own.old → HasRoom (slice_index_or low.now k None) }
+    ensures { (j : ℕ) → j < length own.old → line_in P.Cost.held own.new j ≡ joined_row (kind_of P.Cost) price (line_in P.Cost.held own.old) (row_in P.Cost.held child.now) (line_in P.Cost.held low.now) (as_reached P.Cost.held first) j }
 {
-    for j in (0..limit + 1).rev() {
-        let cell = joined::<P>(cells, at, some, low, child, j, first, price);
-        cells[at + j as usize] = cell;
+    for j in (0..own.len()).rev() {
+        own[j] = joined::<P>(own, low, child, j, first, price);
     }
 }
 
-// The number before `n`, or 0.
-fn before(n: usize) -> usize
-    ensures { result ≡ n - 1 }
-{
-    n.saturating_sub(1)
-}
-
-// The table at `base` with the child whose row stands at `child` joined to it, from its end on, so that what is written is
-// not read again.
+// The table with the child of the row `child` joined to it, from its last row on, so that what is written is not read
+// again.
 pub(crate) fn merge<P: Cost>(
-    cells: &mut [Option<Entry<P::Cell>>],
-    base: usize,
-    child: usize,
-    limit: u8,
+    table: &mut [Option<Entry<P::Cell>>],
+    child: &[Option<Entry<P::Cell>>],
+    limit: Limit,
     price: Option<P>,
 )
-    requires fits { limit < 255 }
-    requires own { base + 5 * (limit + 1) ≤ length cells.old }
-    requires apart { child + limit < base }
-    requires room { (h j : ℕ) → h < 5 → j ≤ limit → HasRoom (slice_index_or cells.old (base + h * (limit + 1) + j) None) }
-    ensures table { (h j : ℕ) → h < 5 → j ≤ limit → table_of P.Cost.held cells.new base (limit + 1) h j ≡ step (kind_of P.Cost) limit (kth_price P.Cost.nothing P.Cost.plus price) (table_of P.Cost.held cells.old base (limit + 1)) (row_at P.Cost.held cells.old child) h j }
-    ensures before { (k : ℕ) → k < base → slice_index_or cells.new k None ≡ slice_index_or cells.old k None }
+    requires own { length table.old ≡ 5 * (limit.value + 1) }
+    requires other { length child.now ≡ limit.value + 1 }
+    requires room { (h j : ℕ) → h < 5 → j ≤ limit.value → HasRoom (slice_index_or table.old (h * (limit.value + 1) + j) None) }
+    ensures { (h j : ℕ) → h < 5 → j ≤ limit.value → table_of P.Cost.held table.new (limit.value + 1) h j ≡ step (kind_of P.Cost) limit.value (kth_price P.Cost.nothing P.Cost.plus price) (table_of P.Cost.held table.old (limit.value + 1)) (row_in P.Cost.held child.now) h j }
 {
-    let first = best_entry::<P>(cells, child, limit);
-    let width = limit as usize + 1;
+    let width = width(limit);
+    let first = best_entry::<P>(&child[..limit.figure()]);
     for h in (0..ROWS).rev() {
-        let at = base + h * width;
-        let fee = kth_price::<P>(price, before(h));
-        merge_row::<P>(cells, at, h > 0, at - width, child, limit, first, fee);
+        let less = h.saturating_sub(1);
+        let (below, rest) = table.split_at_mut(h * width);
+        merge_row::<P>(
+            &mut rest[..width],
+            last_row(below, width),
+            child,
+            first,
+            kth_price::<P>(price, less),
+        );
     }
 }

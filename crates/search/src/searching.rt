@@ -10,6 +10,7 @@ use crate::families::link;
 use crate::fault::SearchFault;
 use crate::least::best_entry;
 use crate::marks::Rows;
+use crate::places::nth_row;
 use crate::walk::walk;
 use cost::Cost;
 use net::limit::Limit;
@@ -34,16 +35,15 @@ fn planned<P: Cost>(
     ensures marks { marks.new ≡ marks_of_chosen marks.old (chosen (kind_of P.Cost) limit.value (records_of route.now) spare.now prices.now) }
 {
     let (families, ranks) = link(route);
-    let figure = limit.figure() as u8;
-    walk::<P>(cells, route.records(), &families, spare, prices, figure);
-    let first = best_entry::<P>(cells, 0, figure + 1)?;
+    walk::<P>(cells, route, &families, spare, prices, limit);
+    let first = best_entry::<P>(nth_row(cells, limit, 0))?;
     let rows = Rows::<P> {
         limit,
         route,
         ranks: &ranks,
         cells,
     };
-    rows.decide(first.length, marks);
+    rows.decide(first.what, marks);
     Some(P::from_cell(first.cost))
 }
 

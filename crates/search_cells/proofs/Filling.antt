@@ -1,52 +1,53 @@
 -- A table in cells, filled child by child.
 use Rattle.std.proofs.Common.{◌≡◌, ℕ, zero, suc, ◌+◌, ◌-◌, ◌*◌, ◌<◌, ◌≤◌, Bool, true, false, cond, ◌&&◌, eqb, ◌≢◌, ◌⊎◌, List, [], ◌∷◌, map, length, get_or, set, Some, None, Option, sym, refl, ap, ◌∙◌, subst, inl, inr, zero-le, eq-or-lt_of_le, add-one, arith, get_or-set_other, get_or-set_same}
 use Rattle.std.proofs.lemmas.Bool.Decides.{nat_tests, eqb_tells}
-use Rattle.search_cells.specs.Cells.{no_leg, branch_of, listed, as_joined, table_of, HasRoom}
-use Rattle.search_cells.specs.declared.Entry.{Entry}
+use Rattle.search_cells.specs.Cells.{no_leg, branch_of, as_joined, table_of, HasRoom}
+use Rattle.search_cells.specs.Lists.{last_first}
+use Rattle.search_cells.specs.declared.Chosen.{Chosen}
+use Rattle.search_cells.specs.declared.Priced.{Priced as Kept}
 use Rattle.search_cells.specs.declared.Leg.{Leg}
 use Rattle.search_theory.specs.Costs.{Kind, below}
 use Rattle.search_theory.specs.Entries.{Priced, cheaper, cheapest, Row, given, Each}
 use Rattle.search_theory.specs.Joining.{Branch, Table, start, tagged, join, charged, best_entry, headed, step, table}
 use Rattle.search_theory.specs.Search.{no_branch}
 use Rattle.search_theory.specs.Tree.{keep}
-use Rattle.search_cells.proofs.Inplace.{rows_apart}
-use Rattle.search_cells.proofs.Legs.{length_listed}
+use Rattle.search_cells.proofs.Parts.{rows_apart}
+use Rattle.search_cells.proofs.Pushing.{length_last_first}
 use Rattle.search_cells.proofs.Turns.{cheapest_same}
 use Rattle.search_theory.proofs.Best.{cheaper_each, cheapest_each}
 use Rattle.search_theory.proofs.Rebuild.{length_map}
 
 module _ {C V : Type 0} (o : Kind C) (held : V → C) where
-  pub cleared : (cur : List (Option (Entry V))) (base w : ℕ) (v : Option (Entry V)) → as_joined held v ≡ Some (record { cost = o.nothing; what = [] }) → base < length cur
-      → ((k : ℕ) → k < 5 * w → get_or cur (base + k) None ≡ None) → (h j : ℕ) → h < 5 → j < w → table_of held (set cur base v) base w h j ≡ start o h j
-  cleared cur base w v is within none h j a b = go (eq-or-lt_of_le zero-le) (eq-or-lt_of_le zero-le)
+  -- where all is cleared and the first cell written, nothing hangs yet
+  pub cleared : (cur : List (Option (Kept V Chosen))) (w : ℕ) (v : Option (Kept V Chosen)) → as_joined held v ≡ Some (record { cost = o.nothing; what = [] }) → 0 < length cur
+      → ((k : ℕ) → get_or cur k None ≡ None) → (h j : ℕ) → j < w → table_of held (set cur 0 v) w h j ≡ start o h j
+  cleared cur w v is within none h j b = go (eq-or-lt_of_le zero-le) (eq-or-lt_of_le zero-le)
     where
       first : Option (Priced C (List Branch))
       first = Some (record { cost = o.nothing; what = [] })
 
-      other : 0 < h * w + j → (eqb h 0 && eqb j 0) ≡ false → table_of held (set cur base v) base w h j ≡ start o h j
+      other : 0 < h * w + j → (eqb h 0 && eqb j 0) ≡ false → table_of held (set cur 0 v) w h j ≡ start o h j
       other p q =
-          let ne : base + h * w + j ≢ base = omega arith in
-          let eq : base + h * w + j ≡ base + (h * w + j) = omega arith in
-          ap (as_joined held) (get_or-set_other cur base (base + h * w + j) v None ne ∙ ap (λ i. get_or cur i None) eq ∙ none (h * w + j) (omega (arith, rows_apart h 5 w a)))
-          ∙ sym (ap (λ b. cond b first None) q)
+          let ne : h * w + j ≢ 0 = omega arith in
+          ap (as_joined held) (get_or-set_other cur 0 (h * w + j) v None ne ∙ none (h * w + j)) ∙ sym (ap (λ b. cond b first None) q)
 
-      go : (0 ≡ h) ⊎ (0 < h) → (0 ≡ j) ⊎ (0 < j) → table_of held (set cur base v) base w h j ≡ start o h j
+      go : (0 ≡ h) ⊎ (0 < h) → (0 ≡ j) ⊎ (0 < j) → table_of held (set cur 0 v) w h j ≡ start o h j
       go (inl e) (inl f) =
           let z : 0 * w ≡ 0 = omega arith in
           let y : h * w ≡ 0 = ap (λ n. n * w) (sym e) ∙ z in
-          let eq : base + h * w + j ≡ base = omega (arith, y) in
+          let eq : h * w + j ≡ 0 = omega (arith, y) in
           let q : (eqb h 0 && eqb j 0) ≡ true = grind (arith, nat_tests) in
-          ap (λ i. as_joined held (get_or (set cur base v) i None)) eq ∙ ap (as_joined held) (get_or-set_same cur base v None within) ∙ is ∙ sym (ap (λ b. cond b first None) q)
+          ap (λ i. as_joined held (get_or (set cur 0 v) i None)) eq ∙ ap (as_joined held) (get_or-set_same cur 0 v None within) ∙ is ∙ sym (ap (λ b. cond b first None) q)
       go (inl e) (inr l) = other (omega arith) (grind (arith, nat_tests))
       go (inr l) d = other (omega (arith, rows_apart 0 h w l)) (grind (arith, nat_tests))
 
   -- a cell that has a leg for each of fewer than four children has room
-  pub has_room : (cell : Option (Entry V)) (n : ℕ) (x : Option (Priced C (List Branch))) → as_joined held cell ≡ x → Each (λ a. length a.what ≡ n) x → n < 4 → HasRoom cell
+  pub has_room : (cell : Option (Kept V Chosen)) (n : ℕ) (x : Option (Priced C (List Branch))) → as_joined held cell ≡ x → Each (λ a. length a.what ≡ n) x → n < 4 → HasRoom cell
   has_room cell n x e h l = go cell (subst (Each (λ a. length a.what ≡ n)) (sym e) h)
     where
-      go : (cell : Option (Entry V)) → Each (λ a. length a.what ≡ n) (as_joined held cell) → HasRoom cell
+      go : (cell : Option (Kept V Chosen)) → Each (λ a. length a.what ≡ n) (as_joined held cell) → HasRoom cell
       go None h = tt
-      go (Some a) h = omega (arith, h, length_listed a.legs a.count)
+      go (Some a) h = omega (arith, h, length_last_first branch_of no_leg a.what.legs.items a.what.legs.count)
 
 module _ {C : Type 0} (o : Kind C) where
   -- as many legs as children
@@ -127,7 +128,7 @@ keep_below f q k n l e =
 
 -- what is listed for each of those as-chosen, the last first
 pub given_rank : (q : ℕ → Bool) (legs : List Leg) (n k : ℕ) → k < n → q k ≡ true
-    → given no_branch k (keep q (below n)) (listed legs (length (keep q (below n)))) ≡ branch_of (get_or legs (length (keep q (below k))) no_leg)
+    → given no_branch k (keep q (below n)) (last_first branch_of no_leg legs (length (keep q (below n)))) ≡ branch_of (get_or legs (length (keep q (below k))) no_leg)
 given_rank q legs zero k l e = absurd (omega arith)
 given_rank q legs (suc n) k l e = go (q n) refl (λ l. given_rank q legs n k l e)
   where
@@ -137,11 +138,11 @@ given_rank q legs (suc n) k l e = go (q n) refl (λ l. given_rank q legs n k l e
     want : Branch
     want = branch_of (get_or legs (length (keep q (below k))) no_leg)
 
-    go : (b : Bool) → q n ≡ b → (k < n → given no_branch k ks (listed legs (length ks)) ≡ want) → given no_branch k (cond b (n ∷ ks) ks) (listed legs (length (cond b (n ∷ ks) ks))) ≡ want
+    go : (b : Bool) → q n ≡ b → (k < n → given no_branch k ks (last_first branch_of no_leg legs (length ks)) ≡ want) → given no_branch k (cond b (n ∷ ks) ks) (last_first branch_of no_leg legs (length (cond b (n ∷ ks) ks))) ≡ want
     go true f ih = elim (eqb_tells k n) [
       | inl z ↦
-          ap (λ b. cond b (branch_of (get_or legs (length ks) no_leg)) (given no_branch k ks (listed legs (length ks)))) z.0
+          ap (λ b. cond b (branch_of (get_or legs (length ks) no_leg)) (given no_branch k ks (last_first branch_of no_leg legs (length ks)))) z.0
           ∙ ap (λ i. branch_of (get_or legs (length (keep q (below i))) no_leg)) (sym z.1)
-      | inr z ↦ ap (λ b. cond b (branch_of (get_or legs (length ks) no_leg)) (given no_branch k ks (listed legs (length ks)))) z.0 ∙ ih (omega arith)
+      | inr z ↦ ap (λ b. cond b (branch_of (get_or legs (length ks) no_leg)) (given no_branch k ks (last_first branch_of no_leg legs (length ks)))) z.0 ∙ ih (omega arith)
     ]
     go false f ih = ih (grind (arith, nat_tests))

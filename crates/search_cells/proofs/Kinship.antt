@@ -9,12 +9,12 @@ use Rattle.search_theory.proofs.Rebuild.{length_map}
 use Rattle.search_cells.specs.Cells.{Searchable}
 use Rattle.search_cells.specs.Families.{no_family, members, members_at, children_before, rank_of}
 use Rattle.search_cells.specs.Lists.{last_first}
-use Rattle.search_cells.specs.declared.Family.{Family}
+use Rattle.search_cells.specs.declared.few.Few.{Few}
 use Rattle.search_cells.proofs.Filling.{keep_more, keep_below}
 use Rattle.search_cells.proofs.Pushing.{length_last_first}
 
-pub count_members : (f : Family) → length (members f) ≡ f.count
-count_members f = length_last_first (λ k. k) 0 f.at f.count
+pub count_members : (f : Few ℕ) → length (members f) ≡ f.count
+count_members f = length_last_first (λ k. k) 0 f.items f.count
 
 module _ (rs : List Record) (tree : Searchable rs) (k : ℕ) (pos : 0 < k) (inside : k < length rs) where
   -- an index has fewer than four siblings before it
@@ -26,7 +26,7 @@ module _ (rs : List Record) (tree : Searchable rs) (k : ℕ) (pos : 0 < k) (insi
       let id : ℕ → ℕ = λ x. x in
       omega (arith, keep_below id (child (parent_of rs) parent) k (length rs) inside its_own, length_map id (children_before rs k parent), tree.narrow parent (omega arith))
 
-module _ (rs : List Record) (tree : Searchable rs) (fs : List Family) (k : ℕ) (pos : 0 < k) (inside : k < length rs)
+module _ (rs : List Record) (tree : Searchable rs) (fs : List (Few ℕ)) (k : ℕ) (pos : 0 < k) (inside : k < length rs)
     (so_far : (i : ℕ) → i < length rs → members_at fs i ≡ children_before rs k i) where
   abbrev parent : ℕ
   parent = parent_of rs k
@@ -44,7 +44,7 @@ module _ (rs : List Record) (tree : Searchable rs) (fs : List Family) (k : ℕ) 
   pub few_siblings : (get_or fs parent no_family).count < 4
   few_siblings = omega (arith, rank_is, rank_below rs tree k pos inside)
 
-  pub linked_more : (f : Family) → parent < length fs → members f ≡ k ∷ members_at fs parent → (i : ℕ) → i < length rs → members_at (set fs parent f) i ≡ children_before rs (k + 1) i
+  pub linked_more : (f : Few ℕ) → parent < length fs → members f ≡ k ∷ members_at fs parent → (i : ℕ) → i < length rs → members_at (set fs parent f) i ≡ children_before rs (k + 1) i
   linked_more f within joined i l = elim (eqb_tells i parent) [
     | inl z ↦
         subst (λ i. members_at (set fs parent f) i ≡ children_before rs (k + 1) i) (sym z.1)
@@ -79,10 +79,10 @@ under_at n ks (suc m) h c l = elim (eqb_tells c m) [
   | inr z ↦ let ne : c ≢ m = z.1 in under_at n ks m h.1 c (omega arith)
 ]
 
-module _ (rs : List Record) (f : Family) (i : ℕ) (its : members f ≡ children (parent_of rs) (length rs) i) where
+module _ (rs : List Record) (f : Few ℕ) (i : ℕ) (its : members f ≡ children (parent_of rs) (length rs) i) where
   -- every child that is told is one of the records
-  pub member_inside : (c : ℕ) → c < f.count → get_or f.at c 0 < length rs
-  member_inside = under_at (length rs) f.at f.count (subst (Under (length rs)) (sym its) (keep_under (child (parent_of rs) i) (length rs)))
+  pub member_inside : (c : ℕ) → c < f.count → get_or f.items c 0 < length rs
+  member_inside = under_at (length rs) f.items f.count (subst (Under (length rs)) (sym its) (keep_under (child (parent_of rs) i) (length rs)))
 
   pub few_members : length (children (parent_of rs) (length rs) i) ≤ 4 → f.count ≤ 4
   few_members h = omega (arith, count_members f, ap length its)

@@ -1,6 +1,6 @@
 pub mod Turns
-pub mod Legs
 pub mod Pushing
+pub mod Parts
 pub mod Inplace
 pub mod Filling
 pub mod Kinship

@@ -5,16 +5,16 @@ use Rattle.net.specs.Routes.{parent_of}
 use Rattle.search_theory.specs.Costs.{below}
 use Rattle.search_theory.specs.Tree.{keep, child, children}
 use Rattle.search_cells.specs.Lists.{last_first}
-use Rattle.search_cells.specs.declared.Family.{Family}
+use Rattle.search_cells.specs.declared.few.Few.{Few}
 
-abbrev pub no_family : Family
-no_family = record { count = 0; at = [] }
+abbrev pub no_family : Few ℕ
+no_family = record { count = 0; items = [] }
 
 -- the children in a family, the last first
-abbrev pub members : Family → List ℕ
-members f = last_first (λ k. k) 0 f.at f.count
+abbrev pub members : Few ℕ → List ℕ
+members f = last_first (λ k. k) 0 f.items f.count
 
-abbrev pub members_at : List Family → ℕ → List ℕ
+abbrev pub members_at : List (Few ℕ) → ℕ → List ℕ
 members_at fs i = members (slice_index_or fs i no_family)
 
 -- the children of i among the first n indices, the last first
@@ -26,7 +26,7 @@ abbrev pub rank_of : List Record → ℕ → ℕ
 rank_of rs k = length (children_before rs k (parent_of rs k))
 
 -- each index has its children in its family
-abbrev pub TellsFamilies : List Record → List Family → Type 0
+abbrev pub TellsFamilies : List Record → List (Few ℕ) → Type 0
 TellsFamilies rs fs = (i : ℕ) → i < length rs → members_at fs i ≡ children (parent_of rs) (length rs) i
 
 -- each index has its place among its siblings in a table

@@ -1,7 +1,11 @@
 // What the buffer search keeps: in lent work cells costs with the choices that lead to them, and in tables of its own the
 // children of each index. The crate has the types, what tables of them mean in specs/, and the steps from one table to the
-// next in proofs/; it runs nothing. It uses the theory of the search.
+// next in proofs/. It uses the theory of the search.
 #![tactic(auto)]
+
+pub mod few;
+
+pub use few::Few;
 
 // What is chosen for one child: whether it has a head buffer, and the length that enters it.
 #[derive(Clone, Copy)]
@@ -16,26 +20,26 @@ pub const NO_LEG: Leg = Leg {
     entering: 0,
 };
 
-// A cost in plain numbers, and the choice that leads to it: whether there is a trunk buffer, and the first `count` of the
-// legs, one for each child in the order of their indices. A work cell is such an entry, or none where no plan leads.
+// A cost in plain numbers, with what leads to it.
 #[derive(Clone, Copy)]
-pub struct Entry<V> {
+pub struct Priced<V, W> {
     pub cost: V,
-    pub trunk: bool,
-    pub count: u8,
-    pub legs: [Leg; 4],
+    pub what: W,
 }
+
+// What is chosen at one index: whether there is a trunk buffer, and the legs of its children, in the order of their
+// indices.
+#[derive(Clone, Copy)]
+pub struct Chosen {
+    pub trunk: bool,
+    pub legs: Few<Leg>,
+}
+
+// A work cell is such an entry, or none where no plan leads.
+pub type Entry<V> = Priced<V, Chosen>;
 
 // The cheapest entry of a row: its cost, and the length at which it stands.
-#[derive(Clone, Copy)]
-pub struct Reach<V> {
-    pub cost: V,
-    pub length: u8,
-}
+pub type Reach<V> = Priced<V, u8>;
 
-// The children of one index: the first `count` of `at`, in the order of their indices.
-#[derive(Clone, Copy)]
-pub struct Family {
-    pub count: u8,
-    pub at: [u8; 4],
-}
+// The children of one index, in the order of their indices.
+pub type Family = Few<u8>;

@@ -6,6 +6,7 @@ use Rattle.net.specs.Routes.{parent_of}
 use Rattle.search_cells.specs.Families.{no_family, members, members_at, children_before, rank_of}
 use Rattle.search_cells.proofs.Inplace.{first_only, set_more}
 use Rattle.search_cells.proofs.Kinship.{rank_is, few_siblings, linked_more}
+use Rattle.search_cells.proofs.Pushing.{pushed}
 use Rattle.search.proofs.Nets.{few, searchable, parent_small}
 use Rattle.search.proofs.Turns.{next_turn, last_turn}
 use Rattle.search.proofs.families.link.Goals as goal
@@ -14,7 +15,7 @@ pub loop-k-init : goal.loop-k-init
 loop-k-init c = (
   refl,
   refl,
-  λ i l. ap members (get_or-replicate 256 i (record { count = 0; at = replicate 4 0 }) no_family (omega (arith, few c.args.route.now))),
+  λ i l. ap members (get_or-replicate 256 i (record { count = 0; items = replicate 4 0 }) no_family (omega (arith, few c.args.route.now))),
   first_only (λ j. get_or (replicate 256 0) j 0 ≡ rank_of (records_of c.args.route.now) j) refl,
 )
 
@@ -28,16 +29,18 @@ bounds-families-parent-in-loop-k c =
     let rs = records_of c.args.route.now in
     parent_small c.args.route.now _ _ _ (next_turn rs _ (cc) (cc) (cc) c.loop-k.yielded _ c.loop-k.yielded_by _ _ c.in-Some.k c.in-Some.record c.in-Some.is c.next.ensures.steps)
 
-pub with_child-requires : goal.with_child-requires
-with_child-requires c =
+pub push-requires : goal.push-requires
+push-requires c =
     let route = c.args.route.now in
     let rs = records_of route in
     let fs = c.loop-k.families in
     let k = c.in-Some.k in
     let t = next_turn rs _ (cc) (cc) (cc) c.loop-k.yielded _ c.loop-k.yielded_by _ _ c.in-Some.k c.in-Some.record c.in-Some.is c.next.ensures.steps in
-    let pos : 0 < k = omega (arith, t.0) in
-    subst (λ p. (get_or fs p no_family).count < 4) (sym (ap (λ r. r.parent) t.2))
-    (few_siblings rs (searchable route) fs k pos t.1 (λ i l. c.loop-k.invariant.2 i l ∙ ap (λ n. children_before rs n i) (sym t.0)))
+    let pos : 0 < k = omega (arith, t.0) in (
+      omega arith,
+      subst (λ p. (get_or fs p no_family).count < 4) (sym (ap (λ r. r.parent) t.2))
+          (few_siblings rs (searchable route) fs k pos t.1 (λ i l. c.loop-k.invariant.2 i l ∙ ap (λ n. children_before rs n i) (sym t.0))),
+    )
 
 pub loop-k-preserved : goal.loop-k-preserved
 loop-k-preserved c =
@@ -50,13 +53,14 @@ loop-k-preserved c =
     let parent : c.in-Some.record.now.parent ≡ parent_of rs k = ap (λ r. r.parent) t.2 in
     let so_far : (i : ℕ) → i < length rs → members_at fs i ≡ children_before rs k i = λ i l. c.loop-k.invariant.2 i l ∙ ap (λ n. children_before rs n i) (sym t.0) in
     let before : parent_of rs k < k = (searchable route).earlier k pos t.1 in
+    let few_linked : (get_or fs c.in-Some.record.now.parent no_family).count < 4 = subst (λ p. (get_or fs p no_family).count < 4) (sym parent) (few_siblings rs (searchable route) fs k pos t.1 so_far) in
     let most : length rs ≤ 256 = few route in
     let count : length (c.loop-k.yielded ++ (k, c.in-Some.record) ∷ []) ≡ length c.loop-k.yielded + 1 = length_push c.loop-k.yielded (k, c.in-Some.record) in
     let more : k + 1 ≡ length (c.loop-k.yielded ++ (k, c.in-Some.record) ∷ []) + 1 = omega (arith, count, t.0) in (
-      length-set fs c.in-Some.record.now.parent c.with_child.result ∙ c.loop-k.invariant.0,
+      length-set fs c.in-Some.record.now.parent c.push.result ∙ c.loop-k.invariant.0,
       length-set c.loop-k.ranks k _ ∙ c.loop-k.invariant.1,
-      λ i l. ap (λ p. members_at (set fs p c.with_child.result) i) parent
-          ∙ linked_more rs (searchable route) fs k pos t.1 so_far c.with_child.result (omega (arith, before, c.loop-k.invariant.0, t.1)) (c.with_child.ensures ∙ ap (λ p. k ∷ members_at fs p) parent) i l
+      λ i l. ap (λ p. members_at (set fs p c.push.result) i) parent
+          ∙ linked_more rs (searchable route) fs k pos t.1 so_far c.push.result (omega (arith, before, c.loop-k.invariant.0, t.1)) (pushed (λ j. j) 0 (get_or fs c.in-Some.record.now.parent no_family) c.push.result k (omega (arith, few_linked, c.push.ensures.four)) c.push.ensures.counted c.push.ensures.kept ∙ ap (λ p. k ∷ members_at fs p) parent) i l
           ∙ ap (λ n. children_before rs n i) more,
       λ j l. set_more 0 (rank_of rs) c.loop-k.ranks k _ (omega (arith, c.loop-k.invariant.1, t.1)) (ap (λ p. (get_or fs p no_family).count) parent ∙ rank_is rs (searchable route) fs k pos t.1 so_far)
           (λ j l. c.loop-k.invariant.3 j (omega (arith, t.0))) j (omega (arith, more)),

@@ -1,15 +1,17 @@
-use Rattle.std.proofs.Common.{◌+◌, ◌<◌, length, get_or, None, ap, ◌∙◌, arith}
-use Rattle.std.proofs.lemmas.List.{get_or_read}
-use Rattle.search_cells.specs.Cells.{as_joined, table_of}
-use Rattle.search_cells.proofs.Turns.{cheapest_more}
-use Rattle.search.proofs.finish.column.Goals as goal
+use Rattle.std.proofs.Common.{◌+◌, ◌<◌, arith, rules}
+use Rattle.search_cells.specs.Cells.{listed, table_of}
+use Rattle.search_cells.proofs.Parts.{rows_apart}
+use Rattle.search_cells.proofs.Turns.{seen_cheapest}
 use Rattle.search_theory.specs.Costs.{kind_of}
+use Rattle.search.proofs.finish.column.Goals as goal
 
-pub loop-h-preserved : goal.loop-h-preserved
-loop-h-preserved g c =
+pub cheapest-requires : goal.cheapest-requires
+cheapest-requires g c = λ h l.
+    let below : h < 5 = omega arith in
+    let span = rows_apart h 5 (c.args.limit.value + 1) below in
+    search rules
+
+pub returns : goal.returns
+returns g c =
     let m = g.P.Cost in
-    let xs = c.args.cells.now in
-    let i = c.place.result + c.args.e in
-    let within : i < length xs = omega arith in
-    cheapest_more (kind_of m) (λ h. table_of m.held xs c.args.base (c.args.limit + 1) h c.args.e) c.loop-h.h _ _ _ c.loop-h.invariant
-    (ap (as_joined m.held) (get_or_read xs i c.index-cells-place.result within c.index-cells-place.is None ∙ ap (λ p. get_or xs (p + c.args.e) None) c.place.ensures.is)) c.cheaper-best.ensures.tables
+    seen_cheapest (kind_of m) m.held (λ c. listed c.legs) c.args.rows _ (λ h. table_of m.held c.args.table.now (c.args.limit.value + 1) h c.args.e) c.cheapest.result c.cheapest.ensures (λ h x l p. search rules)

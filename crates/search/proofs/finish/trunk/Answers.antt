@@ -10,7 +10,8 @@ pub returns-then-free : goal.returns-then-free
 returns-then-free g c =
     let m = g.P.Cost in
     let o = kind_of m in
-    let t = table_of m.held c.args.cells.now c.args.base (c.args.limit + 1) in
+    let limit = c.args.limit.value in
+    let t = table_of m.held c.args.table.now (limit + 1) in
     c.chosen.ensures ∙ ap (chosen true) c.driven.ensures
-    ∙ sym (trunked_five o t c.args.limit c.args.spare c.most.result (kth_price m.nothing m.plus c.args.price) c.most.ensures.within c.most.ensures.below c.most.ensures.same)
-    ∙ sym (ap (λ b. cond b (trunked o c.args.limit c.args.spare (kth_price m.nothing m.plus c.args.price) (five_rows t)) None) c.if-free.true)
+    ∙ sym (trunked_five o t limit c.args.spare c.most.result (kth_price m.nothing m.plus c.args.price) c.most.ensures.within c.most.ensures.below c.most.ensures.same)
+    ∙ sym (ap (λ b. cond b (trunked o limit c.args.spare (kth_price m.nothing m.plus c.args.price) (five_rows t)) None) c.if-free.true)

@@ -1,16 +1,12 @@
-use Rattle.std.proofs.Common.{◌+◌, ◌<◌, length, None, ap, ◌∙◌, arith}
-use Rattle.std.proofs.lemmas.List.{get_or_read}
-use Rattle.search_cells.specs.Cells.{as_chosen, row_at}
-use Rattle.search_theory.specs.Joining.{tagged}
-use Rattle.search_cells.proofs.Turns.{cheapest_more}
-use Rattle.search.proofs.least.best_entry.Goals as goal
+use Rattle.std.proofs.Common.{length, rules}
+use Rattle.search_cells.specs.Cells.{row_in}
+use Rattle.search_cells.proofs.Turns.{seen_cheapest}
 use Rattle.search_theory.specs.Costs.{kind_of}
+use Rattle.search_theory.specs.Joining.{tagged}
+use Rattle.search.proofs.least.best_entry.Goals as goal
 
-pub loop-e-preserved : goal.loop-e-preserved
-loop-e-preserved g c =
+pub returns : goal.returns
+returns g c =
     let m = g.P.Cost in
-    let xs = c.args.cells.now in
-    let within : c.args.at + c.loop-e.e < length xs = omega arith in
-    let read = get_or_read xs (c.args.at + c.loop-e.e) c.index-cells-at.result within c.index-cells-at.is None in
-    cheapest_more (kind_of m) (λ e. tagged e (row_at m.held xs c.args.at e)) c.loop-e.e _ _ _ c.loop-e.invariant
-    (c.tagged.ensures ∙ ap (λ x. tagged c.loop-e.e (as_chosen m.held x)) read) c.nearer-best.ensures
+    let xs = c.args.row.now in
+    seen_cheapest (kind_of m) m.held (λ e. e) (length xs) _ (λ e. tagged e (row_in m.held xs e)) c.cheapest.result c.cheapest.ensures (λ e x l p. search rules)

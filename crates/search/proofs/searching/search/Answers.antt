@@ -1,5 +1,5 @@
 -- A route's records can be searched, the cells suffice, and what is chosen is best.
-use Rattle.std.proofs.Common.{◌≡◌, ◌+◌, ◌*◌, ◌≤◌, length, Err, sym, ap, subst, add-mul, arith}
+use Rattle.std.proofs.Common.{◌≡◌, ◌+◌, length, Err, sym, ap, subst, add-mul, arith}
 use Rattle.net.specs.Checked.{records_of}
 use Rattle.best_plan.proofs.Legals.{chosen_best}
 use Rattle.search.specs.declared.fault.SearchFault.TheVariants.{Cells, Marks}
@@ -39,11 +39,11 @@ returns-then-marks-records g c =
 
 pub planned-requires : goal.planned-requires
 planned-requires g c =
-    let rs = records_of c.args.route.now in
-    let w = c.args.limit.value + 1 in
-    let is : length c.records-records.result.now ≡ length rs = ap length c.records-records.ensures in
-    let enough : (length rs + 10) * w ≤ length c.args.cells.now = omega (arith, c.needed-needed.ensures) in
-    record { own = omega (arith, enough, add-mul (length rs) 10 w); room = omega arith }
+    let n = length (records_of c.args.route.now) in
+    record {
+      own = omega (arith, c.needed-needed.ensures, add-mul n 10 (c.args.limit.value + 1));
+      room = omega (arith, ap length c.records-records.ensures);
+    }
 
 pub returns : goal.returns
 returns g c =
@@ -52,8 +52,10 @@ returns g c =
     let route = c.args.route.now in
     let rs = records_of route in
     let limit = c.args.limit.value in
-    let is : length c.records-records.result.now ≡ length rs = ap length c.records-records.ensures in
+    let spare = c.args.spare.now in
+    let prices = c.args.prices.now in
+    let ms = c.args.marks.now in
     let s =
-    made o limit rs c.args.spare.now c.args.prices.now c.args.cells.now c.args.marks.now (hangs route) (omega (arith, c.needed-needed.ensures)) c.planned.new.cells c.planned.result c.planned.new.marks (omega (arith, is))
-    c.planned.ensures.answer c.planned.ensures.marks (chosen_best g.met.P.Cost.lawful limit rs c.args.spare.now c.args.prices.now (hangs route)) in
+    made o limit rs spare prices c.args.cells.now ms (hangs route) (omega (arith, c.needed-needed.ensures)) c.planned.new.cells c.planned.result c.planned.new.marks (omega (arith, ap length c.records-records.ensures))
+    c.planned.ensures.answer c.planned.ensures.marks (chosen_best g.met.P.Cost.lawful limit rs spare prices (hangs route)) in
     record { answer = s.answer; told = s.refused; marks = s.marks; alone = s.alone; kept = s.kept; best = s.best }

@@ -38,6 +38,6 @@ returns g c =
     let x = c.in-Some.x in
     let p = parent_of rs c.args.k in
     let inside : p < length rs = omega (arith, c.requires.inside, (searchable rows.route.now).earlier c.args.k c.requires.one c.requires.inside) in
-    ap (λ i. branch_of (get_or x.legs i no_leg)) (rows.ranked c.args.k c.requires.inside)
+    ap (λ i. branch_of (get_or x.what.legs.items i no_leg)) (rows.ranked c.args.k c.requires.inside)
     ∙ choice_some (problem (kind_of m) rows.limit.value rs [] []) r c.args.k c.args.e
-    (m.held x.cost) x.trunk x.legs x.count (c.in-Some.ensures ∙ ap (λ ps. r (parent_of ps c.args.k) c.args.e) c.records.ensures) (rows.long p c.args.e inside) c.requires.one c.requires.inside
+    (m.held x.cost) x.what.trunk x.what.legs (c.in-Some.ensures ∙ ap (λ ps. r (parent_of ps c.args.k) c.args.e) c.records.ensures) (rows.long p c.args.e inside) c.requires.one c.requires.inside
