@@ -9,14 +9,11 @@ use Rattle.search_theory.specs.Costs.{kind_of}
 use Rattle.search_theory.specs.Joining.{best_entry}
 use Rattle.search_cells.specs.Cells.{row_in, rows_within, Searchable}
 use Rattle.search_cells.specs.Families.{no_family, members, TellsFamilies}
-use Rattle.search_cells.proofs.Narrow.{route_searchable}
+use Rattle.search_cells.proofs.Narrow.{searchable}
 use Rattle.search.specs.Answers.{cost_of, marks_of_chosen}
 use Rattle.search.specs.Rows.{BranchForEachChild, handed_mark}
 use Rattle.search.proofs.Outcome.{whole_choices, none_chosen, some_chosen}
 use Rattle.search.proofs.searching.planned.Goals as goal
-
-searchable : (r : Route) → Searchable (records_of r)
-searchable r = route_searchable r.grid (records_of r) r.checked
 
 not_many : (r : Route) → length (records_of r) ≤ 256
 not_many r = (proper_if r.grid (records_of r) r.checked).not_many

@@ -1,23 +1,19 @@
 -- One row more: the table of the index's children gives the row of the search, and the rows after it stay.
 use Rattle.std.proofs.Common.{◌≡◌, ℕ, ◌+◌, ◌-◌, ◌*◌, ◌<◌, ◌≤◌, List, ◌++◌, ltb, map, length, get_or, take, drop, None, sym, ap, ◌∙◌, subst, inl, inr, eq-or-lt_of_le, length-take-le, arith}
 use Rattle.std.proofs.lemmas.List.{get_or_append_left}
-use Rattle.net.specs.declared.records.Route.{Route}
 use Rattle.net.specs.Checked.{records_of}
 use Rattle.best_plan.specs.Chosen.{problem}
 use Rattle.length_rule.specs.Costs.{kth_price}
-use Rattle.search_cells.specs.Cells.{as_chosen, rows_of, table_of, five_rows, Searchable}
+use Rattle.search_cells.specs.Cells.{as_chosen, rows_of, table_of, five_rows}
 use Rattle.search_cells.specs.Families.{no_family}
 use Rattle.search_cells.proofs.Kinship.{member_inside, few_members}
-use Rattle.search_cells.proofs.Narrow.{route_searchable}
+use Rattle.search_cells.proofs.Narrow.{searchable}
 use Rattle.search_cells.proofs.Parts.{rows_apart, within_row, after_row}
 use Rattle.search_cells.proofs.Walking.{node_right}
 use Rattle.search_theory.specs.Costs.{kind_of}
 use Rattle.search_theory.specs.Joining.{table, finish}
 use Rattle.search_theory.specs.Search.{row}
 use Rattle.search.proofs.walk.walk.Goals as goal
-
-searchable : (r : Route) → Searchable (records_of r)
-searchable r = route_searchable r.grid (records_of r) r.checked
 
 -- the row before the k-th of as many rows as there are records
 row_fits : {X Y : Type 0} (k : ℕ) (ns : List Y) (rows rest : List X) (w : ℕ) → 0 < k → k ≤ length ns → length rows ≡ length ns * w → length rest + (k - 1) * w ≡ length rows → w ≤ length rest
