@@ -7,8 +7,7 @@ use Rattle.net.specs.Checked.{records_of}
 use Rattle.net.specs.Proper.{Proper}
 use Rattle.net.proofs.Properly.{proper_if}
 use Rattle.best_plan.specs.Cheapest.{HangsTogether}
-use Rattle.search_cells.specs.Cells.{Searchable}
-use Rattle.search_cells.proofs.Narrow.{route_searchable}
+use Rattle.search_cells.proofs.Narrow.{searchable}
 
 proper : (r : Route) → Proper r.grid (records_of r)
 proper r = proper_if r.grid (records_of r) r.checked
@@ -18,9 +17,6 @@ few r = (proper r).not_many
 
 pub hangs : (r : Route) → HangsTogether (records_of r)
 hangs r = let p = proper r in record { some = p.some; earlier = p.earlier }
-
-pub searchable : (r : Route) → Searchable (records_of r)
-searchable r = route_searchable r.grid (records_of r) r.checked
 
 -- the parent of the record of a turn has a place in any table of 256
 pub parent_small : (route : Route) (n k : ℕ) (r : Record) → (k ≡ n + 1) × (k < length (records_of route)) × (r ≡ get_or (records_of route) k no_record) → r.parent < 256

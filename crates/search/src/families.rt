@@ -14,15 +14,15 @@ pub(crate) const NO_CHILDREN: Family = Family {
     items: [0; 4],
 };
 
-// The children of each index, and for each index how many of its siblings stand before it.
+// The children of each index, and for each index how many of its siblings stand before it. Two tables and not one of
+// pairs, since the walk is lent only the first and the marks only the second.
 pub(crate) fn link(route: &Route) -> ([Family; MOST], [u8; MOST])
     ensures families { TellsFamilies (records_of route.now) result.0 }
     ensures ranks { TellsRanks (records_of route.now) result.1 }
 {
-    let records = route.records();
     let mut families = [NO_CHILDREN; MOST];
     let mut ranks = [0; MOST];
-    for (k, record) in records.iter().enumerate().skip(1) {
+    for (k, record) in route.records().iter().enumerate().skip(1) {
         let parent = record.parent as usize;
         let family = families[parent];
         ranks[k] = family.count;

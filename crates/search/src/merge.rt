@@ -62,6 +62,7 @@ fn hung<P: Cost>(
     requires room { (k : ℕ) → k < j → HasRoom (slice_index_or own.now k None) }
     ensures { as_joined P.Cost.held result ≡ cheapest_of (kind_of P.Cost) j (λ e. with_leg (kind_of P.Cost) false (line_in P.Cost.held own.now (j - suc e)) (tag e (row_in P.Cost.held child.now e))) }
 {
+    // Read by index, not by `cell`: this is the innermost loop, and the bounds are proved.
     let hung_at = |e|
         requires small { e < 256 }
         requires below { e < j }
@@ -111,6 +112,7 @@ fn merge_row<P: Cost>(
     requires roomy { (k : ℕ) → k < length own.old → HasRoom (slice_index_or low.now k None) }
     ensures { (j : ℕ) → j < length own.old → line_in P.Cost.held own.new j ≡ joined_row (kind_of P.Cost) price (line_in P.Cost.held own.old) (row_in P.Cost.held child.now) (line_in P.Cost.held low.now) (as_reached P.Cost.held first) j }
 {
+    // By index: each cell is joined from those before it, which no iterator over the row lends beside it.
     for j in (0..own.len()).rev() {
         own[j] = joined::<P>(own, low, child, j, first, price);
     }
@@ -131,6 +133,7 @@ pub(crate) fn merge<P: Cost>(
 {
     let width = width(limit);
     let first = best_entry::<P>(&child[..limit.figure()]);
+    // By index: each row is joined from the one before it, so the table is split there anew.
     for h in (0..ROWS).rev() {
         let less = h.saturating_sub(1);
         let (below, rest) = table.split_at_mut(h * width);

@@ -35,6 +35,7 @@ pub(crate) fn walk<P: Cost>(
     let width = width(limit);
     let (rows, others) = cells.split_at_mut(n * width);
     let table = &mut others[..ROWS * width];
+    // By index: each row is made from those of its children, which stand after it.
     for i in (0..n).rev() {
         let price = offered::<P>(spare, prices, i);
         clear::<P>(table);

@@ -6,6 +6,8 @@ use Rattle.grid.specs.Tiles.{place, number, has_tile}
 use Rattle.grid.specs.Boundaries.{neighbours, share_a_side}
 use Rattle.grid.proofs.Numbering.{place_tells_number}
 use Rattle.grid.proofs.Pairs.{four}
+use Rattle.net.specs.Checked.{records_of}
+use Rattle.net.specs.declared.records.Route.{Route}
 use Rattle.net.specs.declared.records.record.Record.{Record}
 use Rattle.net.specs.Proper.{Proper}
 use Rattle.net.specs.Routes.{tile_of, parent_of, is_route}
@@ -121,3 +123,6 @@ pub route_searchable : (g : Grid) (rs : List Record) → is_route g rs ≡ true 
 route_searchable g rs h =
     let p : Proper g rs = proper_if g rs h in
     record { some = p.some; earlier = p.earlier; narrow = λ i _. narrow g rs p i }
+
+pub searchable : (r : Route) → Searchable (records_of r)
+searchable r = route_searchable r.grid (records_of r) r.checked

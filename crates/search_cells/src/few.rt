@@ -1,7 +1,8 @@
-// At most four, in the order in which they came.
+// A list of at most four, without heap.
 ghost use Rattle.std.specs.Prelude.{◌≡◌, ◌+◌, ◌<◌, ◌≤◌, length, take, slice_set};
 
-// The first `count` of `items`. What a host lends may count more; nothing is read there.
+// The first `count` of `items`, in the order in which they came. It has no invariant: a host lends cells whatever they hold,
+// and a count above four is there to be overwritten, never read.
 #[derive(Clone, Copy)]
 pub struct Few<T> {
     pub count: u8,

@@ -7,7 +7,8 @@ use Rattle.search_cells.specs.Families.{no_family, members, members_at, children
 use Rattle.search_cells.proofs.Inplace.{first_only, set_more}
 use Rattle.search_cells.proofs.Kinship.{rank_is, few_siblings, linked_more}
 use Rattle.search_cells.proofs.Pushing.{pushed}
-use Rattle.search.proofs.Nets.{few, searchable, parent_small}
+use Rattle.search_cells.proofs.Narrow.{searchable}
+use Rattle.search.proofs.Nets.{few, parent_small}
 use Rattle.search.proofs.Turns.{next_turn, last_turn}
 use Rattle.search.proofs.families.link.Goals as goal
 

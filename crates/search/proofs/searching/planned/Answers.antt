@@ -5,7 +5,8 @@ use Rattle.search_theory.specs.Costs.{kind_of}
 use Rattle.search_theory.specs.Joining.{best_entry}
 use Rattle.search_cells.specs.Cells.{row_in}
 use Rattle.search.specs.Answers.{cost_of, marks_of_chosen}
-use Rattle.search.proofs.Nets.{few, searchable}
+use Rattle.search_cells.proofs.Narrow.{searchable}
+use Rattle.search.proofs.Nets.{few}
 use Rattle.search.proofs.Outcome.{whole_choices, none_chosen, some_chosen}
 use Rattle.search.proofs.searching.planned.Goals as goal
 

@@ -7,12 +7,12 @@ use Rattle.length_rule.specs.Costs.{kth_price}
 use Rattle.search_cells.specs.Cells.{as_chosen, rows_of, table_of, five_rows}
 use Rattle.search_cells.specs.Families.{no_family}
 use Rattle.search_cells.proofs.Kinship.{member_inside, few_members}
+use Rattle.search_cells.proofs.Narrow.{searchable}
 use Rattle.search_cells.proofs.Parts.{rows_apart, within_row, after_row}
 use Rattle.search_cells.proofs.Walking.{node_right}
 use Rattle.search_theory.specs.Costs.{kind_of}
 use Rattle.search_theory.specs.Joining.{table, finish}
 use Rattle.search_theory.specs.Search.{row}
-use Rattle.search.proofs.Nets.{searchable}
 use Rattle.search.proofs.walk.walk.Goals as goal
 
 -- the row before the k-th of as many rows as there are records

@@ -12,7 +12,8 @@ use Rattle.search_theory.specs.Layouts.{Rooted}
 use Rattle.search_theory.specs.Search.{choice_for, handed_down}
 use Rattle.search_theory.proofs.Handed.{handed_first, handed_next, layout_first, layout_next}
 use Rattle.search.specs.Rows.{handed_mark}
-use Rattle.search.proofs.Nets.{few, searchable, parent_small}
+use Rattle.search_cells.proofs.Narrow.{searchable}
+use Rattle.search.proofs.Nets.{few, parent_small}
 use Rattle.search.proofs.Turns.{next_turn, last_turn}
 use Rattle.search.proofs.marks.Rows.decide.Goals as goal
 

@@ -6,7 +6,7 @@ use Rattle.search_cells.specs.Cells.{no_leg, branch_of, rows_within}
 use Rattle.search_cells.proofs.Handing.{choice_none, choice_some}
 use Rattle.search_cells.proofs.Kinship.{rank_below}
 use Rattle.search_theory.specs.Costs.{kind_of}
-use Rattle.search.proofs.Nets.{searchable}
+use Rattle.search_cells.proofs.Narrow.{searchable}
 use Rattle.search.proofs.marks.Rows.leg.Goals as goal
 
 pub get-requires : goal.get-requires
