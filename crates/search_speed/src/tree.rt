@@ -1,11 +1,11 @@
 // A net that is grown at random: tile by tile, each beside one that stands.
-ghost use Rattle.std.specs.Prelude.{◌≡◌, IfOk};
+ghost use Rattle.std.specs.Prelude.{◌≡◌};
 ghost use Rattle.search_speed.specs.Tree.{next_dice, tile_beside, stands, sprout, records_after, grown};
 
 use crate::patterns::RECORDS;
+use arrayvec::ArrayVec;
 use grid::shape::Grid;
 use net::records::record::Record;
-use std::alloc::{AllocError, Global};
 
 // How often the dice are thrown: enough to fill the tree.
 const THROWS: usize = 8192;
@@ -66,31 +66,31 @@ fn sprout(grid: Grid, records: &[Record], dice: u32) -> Option<Record>
 }
 
 // One throw, which may add a record to these. A full tree stays.
-fn grow(grid: Grid, records: &mut Vec<Record>, dice: u32) -> Result<(), AllocError>
-    ensures { IfOk result (λ _. records.new.items ≡ records_after grid records.old.items dice) }
+fn grow(grid: Grid, records: &mut ArrayVec<Record, RECORDS>, dice: u32)
+    ensures { records.new.items ≡ records_after grid records.old.items dice }
 {
-    if records.len() < RECORDS
-        && let Some(record) = sprout(grid, records, dice)
-    {
-        records.push(record)?;
+    if records.is_full() {
+        return;
     }
-    Ok(())
+    if let Some(record) = sprout(grid, records.as_slice(), dice) {
+        records.push(record);
+    }
 }
 
 // The records of the tree after all the throws, its driver in the middle of a grid of 64 rows and columns.
-pub fn tree(alloc: Global, grid: Grid) -> Result<Vec<Record>, AllocError>
-    ensures { IfOk result (λ records. records.items ≡ (grown grid 8192).records) }
+pub fn tree(grid: Grid) -> ArrayVec<Record, RECORDS>
+    ensures { result.items ≡ (grown grid 8192).records }
 {
-    let mut records = Vec::with_capacity(alloc, RECORDS)?;
+    let mut records = ArrayVec::new();
     records.push(Record {
         tile: 2080,
         parent: 0,
         sink: true,
-    })?;
+    });
     let mut dice = 1;
     for _throw in 0..THROWS {
         dice = next_dice(dice);
-        grow(grid, &mut records, dice)?;
+        grow(grid, &mut records, dice);
     }
-    Ok(records)
+    records
 }

@@ -15,5 +15,5 @@ loop-throw-preserved c =
     let dice : c.next_dice-dice.result ≡ next_dice t.dice = c.next_dice-dice.ensures ∙ ap next_dice c.loop-throw.invariant.0 in
     rw (add-one c.loop-throw._throw) (
       dice,
-      c.in_ok-grow.ensures ∙ (ap (λ (rs : List Record). records_after g rs c.next_dice-dice.result) c.loop-throw.invariant.1 ∙ ap (λ (d : ℕ). records_after g t.records d) dice),
+      c.grow.ensures ∙ (ap (λ (rs : List Record). records_after g rs c.next_dice-dice.result) c.loop-throw.invariant.1 ∙ ap (λ (d : ℕ). records_after g t.records d) dice),
     )
