@@ -1,5 +1,5 @@
 // The row of an index, from the table of its children.
-ghost use Rattle.std.specs.Prelude.{◌≡◌, ℕ, suc, ◌+◌, ◌-◌, ◌*◌, ◌<◌, ◌≤◌, true, false, length, if◌then◌else◌, Some, None, nat_eq};
+ghost use Rattle.std.specs.Prelude.{◌≡◌, ℕ, suc, ◌+◌, ◌-◌, ◌*◌, ◌<◌, ◌≤◌, true, false, length, if◌then◌else◌, Some, None, nat_eq, slice_index_or};
 ghost use Rattle.length_rule.specs.Costs.{kth_price};
 ghost use Rattle.search_theory.specs.Entries.{cheaper as less, cheapest as cheapest_of};
 ghost use Rattle.search_theory.specs.Joining.{charged as paid, chosen as decided, plain, trunked, finish as finished};
@@ -8,7 +8,7 @@ ghost use Rattle.search_theory.specs.Costs.{kind_of};
 
 use crate::least::{cheaper, cheapest};
 use crate::merge::{ROWS, charged};
-use crate::places::{cell, nth_row};
+use crate::places::nth_row;
 use cost::Cost;
 use net::limit::Limit;
 use plan_cost::kth_price;
@@ -35,14 +35,24 @@ fn column<P: Cost>(
     requires reach { e ≤ limit.value }
     ensures { as_joined P.Cost.held result ≡ cheapest_of (kind_of P.Cost) rows (λ h. table_of P.Cost.held table.now (limit.value + 1) h e) }
 {
-    cheapest::<P, Chosen, _>(rows, |h| cell(nth_row(table, limit, h), e))
+    let cell_at = |h|
+        requires within { 5 * (limit.value + 1) ≤ length table.now }
+        requires below { h < 5 }
+        requires reach { e ≤ limit.value }
+        ensures { result ≡ slice_index_or table.entry.now (h * (limit.value + 1) + e) None }
+    { nth_row(table, limit, h)[e] };
+    cheapest::<P, Chosen, _>(rows, cell_at)
 }
 
 // The cheapest of a table's row.
 fn level<P: Cost>(row: &[Option<Entry<P::Cell>>]) -> Option<Entry<P::Cell>>
     ensures { as_joined P.Cost.held result ≡ cheapest_of (kind_of P.Cost) (length row.now) (line_in P.Cost.held row.now) }
 {
-    cheapest::<P, Chosen, _>(row.len(), |j| cell(row, j))
+    let cell_at = |j|
+        requires { j < length row.now }
+        ensures { result ≡ slice_index_or row.entry.now j None }
+    { row[j] };
+    cheapest::<P, Chosen, _>(row.len(), cell_at)
 }
 
 // The cheapest of the first `rows` rows of the table, with a buffer more.

@@ -4,7 +4,6 @@ ghost use Rattle.search_theory.specs.Joining.{tagged as tag, best_entry as least
 ghost use Rattle.search_cells.specs.Cells.{as_chosen, as_reached, row_in, lesser, LeastOf};
 ghost use Rattle.search_theory.specs.Costs.{kind_of};
 
-use crate::places::cell;
 use cost::Cost;
 use search_cells::{Entry, Priced, Reach};
 
@@ -61,5 +60,11 @@ pub(crate) fn best_entry<P: Cost>(row: &[Option<Entry<P::Cell>>]) -> Option<Reac
     requires { length row.now ≤ 256 }
     ensures { as_reached P.Cost.held result ≡ least_of (kind_of P.Cost) (length row.now) (row_in P.Cost.held row.now) }
 {
-    cheapest::<P, u8, _>(row.len(), |e| tagged::<P>(cell(row, e), e as u8))
+    // Here and wherever a row is read in a loop, by index: with the checked reads of `cell` the search is a fifth slower.
+    let tagged_at = |e|
+        requires below { e < length row.now }
+        requires small { e < 256 }
+        ensures { as_reached P.Cost.held result ≡ tag e (row_in P.Cost.held row.entry.now e) }
+    { tagged::<P>(row[e], e as u8) };
+    cheapest::<P, u8, _>(row.len(), tagged_at)
 }

@@ -62,7 +62,6 @@ fn hung<P: Cost>(
     requires room { (k : ℕ) → k < j → HasRoom (slice_index_or own.now k None) }
     ensures { as_joined P.Cost.held result ≡ cheapest_of (kind_of P.Cost) j (λ e. with_leg (kind_of P.Cost) false (line_in P.Cost.held own.now (j - suc e)) (tag e (row_in P.Cost.held child.now e))) }
 {
-    // Read by index, not by `cell`: this is the innermost loop, and the bounds are proved.
     let hung_at = |e|
         requires small { e < 256 }
         requires below { e < j }

@@ -1,15 +1,8 @@
-use Rattle.std.proofs.Common.{◌+◌, ◌<◌, arith, rules}
+use Rattle.std.proofs.Common.{◌+◌, rules}
 use Rattle.search_cells.specs.Cells.{listed, table_of}
-use Rattle.search_cells.proofs.Parts.{rows_apart}
 use Rattle.search_cells.proofs.Turns.{seen_cheapest}
 use Rattle.search_theory.specs.Costs.{kind_of}
 use Rattle.search.proofs.finish.column.Goals as goal
-
-pub cheapest-requires : goal.cheapest-requires
-cheapest-requires g c = λ h l.
-    let below : h < 5 = omega arith in
-    let span = rows_apart h 5 (c.args.limit.value + 1) below in
-    search rules
 
 pub returns : goal.returns
 returns g c =
