@@ -7,7 +7,7 @@ ghost use Rattle.search_cells.specs.Families.{TellsFamilies};
 ghost use Rattle.best_plan.specs.Chosen.{problem};
 ghost use Rattle.search_theory.specs.Costs.{kind_of};
 
-use crate::finish::finish;
+use crate::finish::Table;
 use crate::merge::ROWS;
 use crate::nodes::{clear, gather};
 use crate::places::width;
@@ -42,6 +42,10 @@ pub(crate) fn walk<P: Cost>(
         gather::<P>(rows, table, &families[i], limit, price);
         let spare_here = spare_at(spare, i);
         let (_, rest) = rows.split_at_mut(i * width);
-        finish::<P>(table, &mut rest[..width], limit, i > 0, spare_here, price);
+        let table = Table::<P> {
+            limit,
+            cells: table,
+        };
+        table.finish(&mut rest[..width], i > 0, spare_here, price);
     }
 }

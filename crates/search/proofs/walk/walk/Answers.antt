@@ -28,8 +28,8 @@ slice_bounds-finish-end g c = row_fits c.loop-i.i c.records-n.result.now c.loop-
 pub slice_bounds-finish-end-in-loop-i : goal.slice_bounds-finish-end-in-loop-i
 slice_bounds-finish-end-in-loop-i g c = sym (row_long c.loop-i.i c.records-n.result.now c.loop-i.rows c.split_at_mut-rest.result.1.now c.width-width.result (omega arith) (omega arith) (omega arith) c.split_at_mut-rest.ensures.back_len)
 
-pub finish-requires-clause-wide : goal.finish-requires-clause-wide
-finish-requires-clause-wide g c = row_long c.loop-i.i c.records-n.result.now c.loop-i.rows c.split_at_mut-rest.result.1.now c.width-width.result (omega arith) (omega arith) (omega arith) c.split_at_mut-rest.ensures.back_len ∙ c.width-width.ensures
+pub finish-requires : goal.finish-requires
+finish-requires g c = row_long c.loop-i.i c.records-n.result.now c.loop-i.rows c.split_at_mut-rest.result.1.now c.width-width.result (omega arith) (omega arith) (omega arith) c.split_at_mut-rest.ensures.back_len ∙ c.width-width.ensures
 
 pub gather-requires-clause-few : goal.gather-requires-clause-few
 gather-requires-clause-few g c =
