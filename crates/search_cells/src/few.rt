@@ -10,13 +10,16 @@ pub struct Few<T> {
 }
 
 impl<T: Copy> Few<T> {
-    // One more.
+    // One more. Where four are counted, or more, it stays.
     pub fn push(self, item: T) -> Few<T>
-        requires { self.count < 4 }
-        ensures counted { result.count ≡ self.count + 1 }
-        ensures kept { result.items ≡ slice_set self.items self.count item }
+        ensures counted { self.count < 4 → result.count ≡ self.count + 1 }
+        ensures kept { self.count < 4 → result.items ≡ slice_set self.items self.count item }
+        ensures full { 4 ≤ self.count → result ≡ self }
         ensures four { length self.items ≡ 4 }
     {
+        if self.count >= 4 {
+            return self;
+        }
         let mut items = self.items;
         items[self.count as usize] = item;
         Few {
@@ -25,12 +28,11 @@ impl<T: Copy> Few<T> {
         }
     }
 
-    // Those that are counted.
+    // Those that are counted, at most four.
     pub fn as_slice(&self) -> &[T]
-        requires { self.now.count ≤ 4 }
-        ensures counted { length result.now ≡ self.now.count }
+        ensures counted { self.now.count ≤ 4 → length result.now ≡ self.now.count }
         ensures kept { result.now ≡ take self.now.count self.now.items }
     {
-        &self.items[..self.count as usize]
+        &self.items[..usize::from(self.count).min(4)]
     }
 }

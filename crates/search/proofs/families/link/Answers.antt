@@ -30,19 +30,6 @@ bounds-families-parent-in-loop-k c =
     let rs = records_of c.args.route.now in
     parent_small c.args.route.now _ _ _ (next_turn rs _ (cc) (cc) (cc) c.loop-k.yielded _ c.loop-k.yielded_by _ _ c.in-Some.k c.in-Some.record c.in-Some.is c.next.ensures.steps)
 
-pub push-requires : goal.push-requires
-push-requires c =
-    let route = c.args.route.now in
-    let rs = records_of route in
-    let fs = c.loop-k.families in
-    let k = c.in-Some.k in
-    let t = next_turn rs _ (cc) (cc) (cc) c.loop-k.yielded _ c.loop-k.yielded_by _ _ c.in-Some.k c.in-Some.record c.in-Some.is c.next.ensures.steps in
-    let pos : 0 < k = omega (arith, t.0) in (
-      omega arith,
-      subst (λ p. (get_or fs p no_family).count < 4) (sym (ap (λ r. r.parent) t.2))
-          (few_siblings rs (searchable route) fs k pos t.1 (λ i l. c.loop-k.invariant.2 i l ∙ ap (λ n. children_before rs n i) (sym t.0))),
-    )
-
 pub loop-k-preserved : goal.loop-k-preserved
 loop-k-preserved c =
     let route = c.args.route.now in
@@ -61,7 +48,7 @@ loop-k-preserved c =
       length-set fs c.in-Some.record.now.parent c.push.result ∙ c.loop-k.invariant.0,
       length-set c.loop-k.ranks k _ ∙ c.loop-k.invariant.1,
       λ i l. ap (λ p. members_at (set fs p c.push.result) i) parent
-          ∙ linked_more rs (searchable route) fs k pos t.1 so_far c.push.result (omega (arith, before, c.loop-k.invariant.0, t.1)) (pushed (λ j. j) 0 (get_or fs c.in-Some.record.now.parent no_family) c.push.result k (omega (arith, few_linked, c.push.ensures.four)) c.push.ensures.counted c.push.ensures.kept ∙ ap (λ p. k ∷ members_at fs p) parent) i l
+          ∙ linked_more rs (searchable route) fs k pos t.1 so_far c.push.result (omega (arith, before, c.loop-k.invariant.0, t.1)) (pushed (λ j. j) 0 (get_or fs c.in-Some.record.now.parent no_family) c.push.result k (omega (arith, few_linked, c.push.ensures.four)) (c.push.ensures.counted few_linked) (c.push.ensures.kept few_linked) ∙ ap (λ p. k ∷ members_at fs p) parent) i l
           ∙ ap (λ n. children_before rs n i) more,
       λ j l. set_more 0 (rank_of rs) c.loop-k.ranks k _ (omega (arith, c.loop-k.invariant.1, t.1)) (ap (λ p. (get_or fs p no_family).count) parent ∙ rank_is rs (searchable route) fs k pos t.1 so_far)
           (λ j l. c.loop-k.invariant.3 j (omega (arith, t.0))) j (omega (arith, more)),
