@@ -32,7 +32,8 @@ impl<'b, S: Stock> Closure<'b, S> {
         }
     }
 
-    // Refused exactly when the stock below has no such place.
+    // Refused exactly when the stock below has no such place. It stands beside `reopen`, and no call has a flag for both:
+    // a bare `true` would say less at each call.
     pub fn close(&mut self, place: usize) -> Result<(), StockFault>
         ensures answer { result ≡ mark_answer (S.Stock.meaning self.old.below.now) place }
         ensures told { told_by told result ≡ question_refusal (S.Stock.meaning self.old.below.now) place }

@@ -14,7 +14,7 @@ use search::fault::SearchFault;
 use search::search;
 use search_cells::Entry;
 
-// Whether an answer is right, and whether it is a plan.
+// Whether an answer is right, and whether it is a plan: two flags, since each can be without the other.
 #[derive(Clone, Copy)]
 pub(crate) struct Verdict {
     pub(crate) right: bool,

@@ -60,6 +60,7 @@ fn check_gates_of(limit: Limit, index: usize, gates: Gates) -> Result<(), PlanFa
 fn check_gates(limit: Limit, route: &Route, marks: &[u8]) -> Result<(), PlanFault>
     ensures { fault_of result ≡ lowest (gate_fault limit.value (records_of route.now) marks.now) (length (records_of route.now)) }
 {
+    // By index: over a `zip` of records and lengths it stays open which of them were passed before a refusal.
     let lengths = lengths::hanging(route, marks);
     for (index, record) in route.records().iter().enumerate() {
         let mark = mark_at(marks, index);

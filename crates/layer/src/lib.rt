@@ -13,7 +13,8 @@ use stock::fault::StockFault;
 use stock::figures::Figures;
 use stock::stock::Stock;
 
-// Each layer passes its other calls on itself: shared, four one-line methods would need one that lends the stock below, with a clause on the loan.
+// Each layer passes its other calls on itself: to share four one-line methods would take one that lends the stock below,
+// with a clause on that loan.
 
 // Takes n at a place below, where the layer tells this capacity. Refused where the use would pass the capacity told,
 // or the capacity below.

@@ -50,7 +50,8 @@ fn work<S: Stock>(rt: &impl Print, stock: &mut S) -> anyhow::Result<()> {
     print_answer(rt, "take 1 at tile 6", stock.take(6, 1))
 }
 
-// Each layer is laid inside a function over any stock: in one function the checker covers no layer on a layer whose types it knows ('a type argument holds a `&mut` and a struct that has a ghost field').
+// Each layer is laid inside a function over any stock: the checker covers no layer on a layer whose types it knows ('a type
+// argument holds a `&mut` and a struct that has a ghost field').
 
 // A closure over any stock: the calls, and a tile closed while it is in use.
 fn under_closure<S: Stock>(rt: &impl Print, below: &mut S) -> anyhow::Result<()> {

@@ -1,5 +1,6 @@
 // The figures of one place of a stock, and what taking and giving back make of its use.
-// What else a stock with a table does, it writes itself: a shared form would ask it for `at` and `put` and save five short methods.
+// What else a stock with a table does, it writes itself: a shared form would ask for `at` and `put` to save five short
+// methods.
 ghost use Rattle.std.specs.Prelude.{◌≡◌};
 ghost use Rattle.stock.specs.Figures.{given_use, taken_use};
 

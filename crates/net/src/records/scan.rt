@@ -94,6 +94,7 @@ fn check_ends(records: &[Record]) -> Result<(), RouteFault>
     ensures { fault_of result ≡ lowest (end_fault records.now) (length records.now) }
 {
     let parents = mark_parents(records);
+    // Marks by index: over a `zip`, and over its `position`, it stays open what was passed before a refusal.
     for (i, record) in records.iter().enumerate() {
         if !record.sink && !parents[i] {
             return Err(RouteFault::Useless(i));
