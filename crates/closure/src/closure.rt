@@ -32,8 +32,8 @@ impl<'b, S: Stock> Closure<'b, S> {
         }
     }
 
-    // Refused exactly when the stock below has no such place. It stands beside `reopen`, and no call has a flag for both:
-    // a bare `true` would say less at each call.
+    // Refused exactly when the stock below has no such place. One call with a flag for closing and opening would be no
+    // plainer: `mark(3, true)` does not say which it does.
     pub fn close(&mut self, place: usize) -> Result<(), StockFault>
         ensures answer { result ≡ mark_answer (S.Stock.meaning self.old.below.now) place }
         ensures told { told_by told result ≡ question_refusal (S.Stock.meaning self.old.below.now) place }

@@ -4,7 +4,7 @@ ghost use Rattle.congestion.specs.Price.{congestion_ceiling};
 
 pub const CEILING: u64 = 999_999_999_999;
 
-// A type beside count and worst tile: a host lends eight bytes for its cell, where those ask for two.
+// A type of its own beside those of other kinds: the numbers of one for all would take as many bytes in every lent cell.
 #[derive(Clone, Copy)]
 pub struct Congestion {
     pub value: u64,

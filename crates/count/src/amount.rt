@@ -4,7 +4,7 @@ ghost use Rattle.count.specs.Price.{count_ceiling};
 
 pub const CEILING: u16 = 65_535;
 
-// A type beside congestion and worst tile: a host lends two bytes for its cell, where one type for all would ask for eight.
+// A type of its own beside those of other kinds: a host lends two bytes for its cell, where one for all would ask for eight.
 #[derive(Clone, Copy)]
 pub struct Count {
     pub value: u16,

@@ -5,7 +5,7 @@ ghost use Rattle.net.specs.Largest.{largest_limit};
 pub mod limiting;
 
 // How much a gate of the net may drive: 1 to the largest limit, and no value can have another. It shares no type with
-// percentages and sizes: no other number passes for a limit, and its refusal has a number of its own.
+// other bounded numbers, so that none of them passes for a limit.
 #[derive(Clone, Copy)]
 pub struct Limit {
     value: u8,

@@ -10,7 +10,7 @@ use crate::records::record::Record;
 use grid::shape::Grid;
 
 // A route on a grid: as many records as `count` says, of which the check refuses nothing. Only the check makes one.
-// Fixed places with a count: nothing is allocated, and a route is copied, which `arrayvec::ArrayVec` is not.
+// Fixed places with a count: nothing is allocated, and a route is copied, which no vector of fixed room is.
 #[derive(Clone, Copy)]
 pub struct Route {
     grid: Grid,

@@ -4,7 +4,8 @@ ghost use Rattle.std.specs.Prelude.{◌≤◌};
 pub mod making;
 
 // From 0 to 100, and no other exists.
-// It is no `Size` with another bound: but for the test of the bound nothing is alike, neither width nor name.
+// A type of its own beside the sizes of stocks, so that neither passes for the other; all that they share is the test of a
+// bound.
 #[derive(Clone, Copy)]
 pub struct Percent {
     value: u8,

@@ -9,7 +9,7 @@ use search_cells::Family;
 pub(crate) const MOST: usize = 256;
 
 // The family of an index that nothing hangs from.
-pub(crate) const NO_CHILDREN: Family = Family {
+const NO_CHILDREN: Family = Family {
     count: 0,
     items: [0; 4],
 };

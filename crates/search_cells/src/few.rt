@@ -1,8 +1,8 @@
 // A list of at most four, without heap.
 ghost use Rattle.std.specs.Prelude.{◌≡◌, ◌+◌, ◌<◌, ◌≤◌, length, take, slice_set};
 
-// The first `count` of `items`, in the order in which they came. It has no invariant: a host lends cells whatever they hold,
-// and a count above four is there to be overwritten, never read.
+// The first `count` of `items`, in the order in which they came. It has no invariant, since a host lends cells whatever
+// they hold; a count above four tells no more than four.
 #[derive(Clone, Copy)]
 pub struct Few<T> {
     pub count: u8,

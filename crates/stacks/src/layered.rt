@@ -1,5 +1,6 @@
 // The same through layers, on any stock.
-// Each function makes its layer itself: one that lent it to a closure would owe a clause on that loan in place of one line.
+// Each function makes its layer itself: one that took a function of the layer would owe a clause on that loan in place of
+// one line.
 ghost use Rattle.std.specs.Prelude.{◌≡◌};
 ghost use Rattle.reserve.specs.Reserved.{reserved};
 ghost use Rattle.stacks.specs.Stacked.{closed_over, drained};
