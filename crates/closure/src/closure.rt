@@ -11,7 +11,7 @@ use stock::stock::Stock;
 
 pub mod as_stock;
 
-// A mark for each of as many places as a stock can have: closed where it is set.
+// A mark for each of as many places as a stock can have, since nothing is allocated: closed where it is set.
 #[derive(Drop)]
 pub struct Closure<'b, S> {
     below: &'b mut S,

@@ -4,7 +4,8 @@ ghost use Rattle.congestion.specs.Price.{congestion_ceiling};
 
 pub const CEILING: u64 = 999_999_999_999;
 
-// A type of its own beside those of other kinds: the numbers of one for all would take as many bytes in every lent cell.
+// A type of its own beside those of other kinds: one for all would take its eight bytes in every lent cell, and one that is
+// generic in the number would need a trait of numbers that is longer than what it saves.
 #[derive(Clone, Copy)]
 pub struct Congestion {
     pub value: u64,

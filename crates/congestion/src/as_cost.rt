@@ -11,7 +11,7 @@ use crate::amount::{CEILING, Congestion};
 use cost::{Cost, Pricing, Strict};
 use shares::SHARE_UNIT;
 
-// A price counts thousandths.
+// A price counts thousandths. Each kind says its own parts.
 const THOUSANDTHS: u64 = 1000;
 
 fn capped(value: u64) -> Congestion

@@ -2,8 +2,9 @@
 ghost use Rattle.std.specs.Prelude.{◌≡◌, Bool, ℕ, ◌<◌};
 ghost use Rattle.laws.specs.Laws.{CostLaws, StrictLaws, ReadsBack};
 
-// A cost kind: a value called nothing, a sum and a comparison, whose ties need not be equal values. In a work cell a
-// cost lies as plain numbers.
+// A cost kind: a value called nothing, a sum and a comparison, whose ties need not be equal values, so that it is no order of
+// the library. In a work cell a cost lies as plain numbers; it goes there and back by calls of its own, since `From` knows
+// neither `stored` nor `held`.
 pub trait Cost: Copy {
     type Cell: Copy;
 

@@ -27,7 +27,7 @@ pub(crate) const NO_ANSWER: Verdict = Verdict {
     plan: false,
 };
 
-// Both none, or two costs that tie.
+// Both none, or two costs that tie, which need not be equal.
 fn tie<P: Cost>(first: Option<P>, second: Option<P>) -> bool
     ensures { result ≡ tie P.Cost.at_most first second }
 {

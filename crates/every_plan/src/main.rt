@@ -15,6 +15,7 @@ use cost::{Pair, Pricing};
 use count::Count;
 use crowds::CROWDS;
 use grid::shape::Grid;
+use search::SPARE_ROWS;
 use search_cells::Entry;
 use shapes::{RECORDS, SHAPES};
 use std::io;
@@ -22,7 +23,7 @@ use tallying::{LIMITS, Tally, tried};
 use worst_tile::WorstTile;
 
 // The work cells that the search of any shape needs at the largest limit that is tried.
-const CELLS: usize = (RECORDS + 10) * (LIMITS + 1);
+const CELLS: usize = (RECORDS + SPARE_ROWS) * (LIMITS + 1);
 
 // What one kind of cost gives.
 fn print_kind<P: Pricing>(rt: &HostRuntime, kind: &str, grid: Grid) -> io::Result<()> {

@@ -1,4 +1,5 @@
-// Many nets in one kind of cost, and how their answers compared.
+// Many nets in one kind of cost, and how their answers compared. Each function goes over one of the things that are handed
+// down, so that no two of them take the same.
 ghost use Rattle.std.specs.Prelude.{◌≡◌, map, length};
 ghost use Rattle.search_theory.specs.Costs.{kind_of};
 ghost use Rattle.every_plan.specs.Crowds.{prices_along, prices_after};

@@ -1,4 +1,5 @@
-// Why a call of a floorplan was refused, an enum for each call. The numbers and values are given in specs/.
+// Why a call of a floorplan was refused, an enum for each call. The numbers and values are given in specs/. No program prints
+// them, so they have no `Display`.
 ghost use Rattle.std.specs.Prelude.{◌≡◌};
 ghost use Rattle.floor_types.specs.Faults.{with_index};
 ghost use Rattle.floor_types.specs.declared.faults.EntryFault.TheVariants.{Tables as entry_tables, Route as entry_route, Wire as entry_wire};

@@ -10,7 +10,8 @@ pub struct NetPlace {
     pub planned: bool,
 }
 
-// A record's place: the record as entered, and its mark.
+// A record's place: the record as entered, and its mark. The record's numbers stand one by one, since a host may write any
+// of them.
 #[derive(Clone, Copy)]
 pub struct RecordPlace {
     pub tile: u16,

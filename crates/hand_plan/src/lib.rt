@@ -19,12 +19,13 @@ use plan::lengths;
 use plan::marks::mark_at;
 use plan::needs::needs;
 
-// The largest mark, and that of index 0.
+// The largest mark, and that of index 0: bytes, as hosts lend marks.
 const MOST: u8 = 3;
 
 const NONE: u8 = 0;
 
-// Refuses the lowest index with a mark that it may not have.
+// Refuses the lowest index with a mark that it may not have. This and the two scans below stand apart: one function for
+// them would take each test as a closure, and owe its clause.
 fn check_marks(marks: &[u8]) -> Result<(), PlanFault>
     ensures { fault_of result ≡ lowest (mark_fault marks.now) (length marks.now) }
 {

@@ -13,7 +13,7 @@ pub struct Limit {
     ghost fits: { value ≤ largest_limit },
 }
 
-// Why a limit was not made: the figure lies outside.
+// Why a limit was not made: the figure lies outside. No program prints it, so it has no `Display`.
 #[derive(Clone, Copy, PartialEq, Eq, Debug)]
 pub enum LimitFault {
     Outside(usize),

@@ -10,8 +10,8 @@ use stock::size::{MOST_PLACES, Size};
 
 pub mod as_stock;
 
-// A use for each of as many places as a stock can have, of which the first ones are the stock's. That each use fits 16 bits
-// stands in the type, since what the stock means rests on it.
+// A use for each of as many places as a stock can have, since nothing is allocated; the first ones are the stock's. That
+// each use fits 16 bits stands in the type, since what the stock means rests on it.
 #[derive(Drop)]
 pub struct OpenStock {
     size: Size,

@@ -1,4 +1,5 @@
-// What hangs at each index of a route, walked from the end once.
+// What hangs at each index of a route, walked from the end once. A route and marks come apart, as hosts lend them; tables
+// have fixed room, since nothing is allocated.
 ghost use Rattle.std.specs.Prelude.{◌≡◌, ◌+◌, ◌<◌, ◌≤◌, map, length, if◌then◌else◌};
 ghost use Rattle.std.specs.List.{range_with_len};
 ghost use Rattle.net.specs.Checked.{records_of};
@@ -7,7 +8,7 @@ ghost use Rattle.length_rule.specs.Marks.{has_head, has_trunk};
 ghost use Rattle.plan.specs.Walk.{Walked};
 
 use crate::marks::{has_head, has_trunk, mark_at};
-use net::records::Route;
+use net::records::{MOST_RECORDS, Route};
 
 // What an index with this mark passes up to its parent, where so much hangs at it: nothing past a head buffer, else 1
 // and what enters the index.
@@ -37,12 +38,12 @@ fn pass_up(route: &Route, marks: &[u8], index: usize, lengths: &mut [u16])
 }
 
 // What hangs at each index of the route under these marks; 0 past the last.
-pub fn hanging(route: &Route, marks: &[u8]) -> [u16; 256]
+pub fn hanging(route: &Route, marks: &[u8]) -> [u16; MOST_RECORDS]
     ensures answer { result ≡ map (hanging (records_of route.now) marks.now) (range_with_len 0 256) }
     ensures rule { LengthsAreTheRule (records_of route.now) marks.now }
 {
-    let mut lengths = [0; 256];
-    // Over indices and not records: the walk goes from the end, and writes at the parent's index.
+    let mut lengths = [0; MOST_RECORDS];
+    // Over indices: by `enumerate().skip(1).rev()` each record would be named and not read.
     for index in (1..route.records().len()).rev() {
         pass_up(route, marks, index, &mut lengths);
     }

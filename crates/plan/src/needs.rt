@@ -7,14 +7,14 @@ ghost use Rattle.length_rule.specs.Local.{NeedsAreLocal};
 ghost use Rattle.length_rule.specs.Marks.{Plan};
 
 use crate::marks::{has_head, has_trunk, mark_at};
-use net::records::Route;
+use net::records::{MOST_RECORDS, Route};
 
 // What the tile of each index of the route needs under these marks; 0 past the last.
-pub fn needs(route: &Route, marks: &[u8]) -> [u16; 256]
+pub fn needs(route: &Route, marks: &[u8]) -> [u16; MOST_RECORDS]
     ensures answer { result ≡ map (need (records_of route.now) marks.now) (range_with_len 0 256) }
     ensures local { Plan (records_of route.now) marks.now → NeedsAreLocal (records_of route.now) marks.now }
 {
-    let mut needs = [0; 256];
+    let mut needs = [0; MOST_RECORDS];
     for (index, record) in route.records().iter().enumerate() {
         let mark = mark_at(marks, index);
         // A head buffer stands in the parent's tile, a trunk buffer in the index's own.

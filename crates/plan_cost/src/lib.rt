@@ -22,11 +22,7 @@ pub fn kth_price<P: Cost>(price: Option<P>, k: usize) -> P
 pub fn tile_cost<P: Cost>(price: Option<P>, sites: usize) -> P
     ensures { result ≡ tile_cost P.Cost.nothing P.Cost.plus price sites }
 {
-    let mut sum = P::nothing();
-    for k in 0..sites {
-        sum = kth_price(price, k).plus(sum);
-    }
-    sum
+    (0..sites).fold(P::nothing(), |sum, k| kth_price(price, k).plus(sum))
 }
 
 // What a plan costs, with these prices along the route.

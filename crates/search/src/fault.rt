@@ -1,4 +1,4 @@
-// Why a search is not made.
+// Why a search is not made. No program prints it, so it has no `Display`.
 
 // How many work cells it needs, or how many marks.
 #[derive(Clone, Copy, PartialEq, Eq, Debug)]

@@ -86,7 +86,7 @@ impl<'a, P: Cost> Table<'a, P> {
         cheapest::<P, Chosen, _>(rows, row_driven)
     }
 
-    // The cheapest with a trunk buffer, if `free`.
+    // The cheapest with a trunk buffer, if `free`: an option as it is, which `then` would wrap in another.
     fn trunk(&self, free: bool, spare: u16, price: Option<P>) -> Option<Entry<P::Cell>>
         ensures { as_chosen P.Cost.held result ≡ (if free then trunked (kind_of P.Cost) self.now.limit.value spare (kth_price P.Cost.nothing P.Cost.plus price) (five_rows (table_of P.Cost.held self.now.cells.now (self.now.limit.value + 1))) else None) }
     {

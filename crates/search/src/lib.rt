@@ -18,4 +18,4 @@ pub mod searching;
 mod walk;
 
 pub use fault::SearchFault;
-pub use searching::search;
+pub use searching::{SPARE_ROWS, search};

@@ -9,11 +9,10 @@ ghost use Rattle.search_cells.specs.Families.{TellsRanks};
 ghost use Rattle.best_plan.specs.Chosen.{problem, mark_of};
 ghost use Rattle.search.specs.Rows.{BranchForEachChild, BranchForEachChild-prop, handed_mark};
 
-use crate::families::MOST;
 use crate::places::{cell, nth_row};
 use cost::Cost;
 use net::limit::Limit;
-use net::records::Route;
+use net::records::{MOST_RECORDS, Route};
 use search_cells::{Entry, Leg, NO_LEG};
 
 // The rows of a route's search, in the first of the cells, and the place of each index among its siblings.
@@ -21,7 +20,7 @@ use search_cells::{Entry, Leg, NO_LEG};
 pub(crate) struct Rows<'a, P: Cost> {
     pub limit: Limit,
     pub route: &'a Route,
-    pub ranks: &'a [u8; MOST],
+    pub ranks: &'a [u8; MOST_RECORDS],
     pub cells: &'a [Option<Entry<P::Cell>>],
     ghost within: { length (records_of route.now) * (limit.value + 1) ≤ length cells.now },
     ghost ranked: { TellsRanks (records_of route.now) ranks.now },
@@ -29,7 +28,8 @@ pub(crate) struct Rows<'a, P: Cost> {
 }
 
 impl<'a, P: Cost> Rows<'a, P> {
-    // The cell of row `k` at the length `e`; there is none past the limit.
+    // The cell of row `k` at the length `e`; there is none past the limit. That `k` is an index of the route is for a clause:
+    // a type for such an index would have to name the route.
     fn get(&self, k: usize, e: u8) -> Option<Entry<P::Cell>>
         requires { k < length (records_of self.now.route.now) }
         ensures { as_chosen P.Cost.held result ≡ rows_within P.Cost.held self.now.cells.now self.now.limit.value k e }
@@ -64,7 +64,7 @@ impl<'a, P: Cost> Rows<'a, P> {
         requires room { length marks.old ≡ length (records_of self.now.route.now) }
         ensures { (k : ℕ) → k < length (records_of self.now.route.now) → slice_index marks.new k ≡ handed_mark (problem (kind_of P.Cost) self.now.limit.value (records_of self.now.route.now) [] []) (rows_within P.Cost.held self.now.cells.now self.now.limit.value) e k }
     {
-        let mut lengths = [e; MOST];
+        let mut lengths = [e; MOST_RECORDS];
         marks[0] = mark_of(false, self.trunk(0, e));
         for (k, record) in self.route.records().iter().enumerate().skip(1) {
             let leg = self.leg(k, lengths[record.parent as usize]);
@@ -74,7 +74,7 @@ impl<'a, P: Cost> Rows<'a, P> {
     }
 }
 
-// The mark of these buffers.
+// The mark of these buffers: a byte, as hosts lend marks.
 fn mark_of(head: bool, trunk: bool) -> u8
     ensures { result ≡ mark_of (record { head = head; trunk = trunk }) }
 {

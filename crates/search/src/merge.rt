@@ -16,7 +16,7 @@ use search_cells::{Chosen, Entry, Leg, Priced, Reach};
 // The most head buffers that an index can have at its children, and none: the rows of a table.
 pub(crate) const ROWS: usize = 5;
 
-// `t` with the child of `r` joined to it.
+// `t` with the child of `r` joined to it. That it has room is for clauses: no type says it, since hosts lend the cells.
 fn join<P: Cost>(
     head: bool,
     t: Option<Entry<P::Cell>>,

@@ -3,6 +3,7 @@ ghost use Rattle.std.specs.Prelude.{◌≡◌};
 ghost use Rattle.length_rule.specs.Legal.{spare_at};
 ghost use Rattle.best_plan.specs.Chosen.{offered as offer};
 
+use crate::places::cell;
 use cost::Cost;
 
 // The spare sites in the tile of an index; none where none is told.
@@ -19,5 +20,5 @@ pub(crate) fn offered<P: Cost>(spare: &[u16], prices: &[Option<P>], index: usize
     if spare_at(spare, index) == 0 {
         return None;
     }
-    prices.get(index).copied().flatten()
+    cell(prices, index)
 }

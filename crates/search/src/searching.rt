@@ -10,15 +10,15 @@ use crate::families::link;
 use crate::fault::SearchFault;
 use crate::least::best_entry;
 use crate::marks::Rows;
-use crate::places::nth_row;
+use crate::places::{nth_row, width};
 use crate::walk::walk;
 use cost::Cost;
 use net::limit::Limit;
 use net::records::Route;
 use search_cells::Entry;
 
-// The rows of cells beside those of the records.
-const SPARE_ROWS: usize = 10;
+// The rows of cells that a search needs beside those of the records.
+pub const SPARE_ROWS: usize = 10;
 
 // The cost of the plan that is chosen, with its marks written; nothing where none is.
 fn planned<P: Cost>(
@@ -51,7 +51,7 @@ fn planned<P: Cost>(
 fn needed(limit: Limit, route: &Route) -> usize
     ensures { result ≡ cells_needed limit.value (length (records_of route.now)) }
 {
-    (route.records().len() + SPARE_ROWS) * (limit.figure() + 1)
+    (route.records().len() + SPARE_ROWS) * width(limit)
 }
 
 // The cost of a cheapest legal plan for this net, with its marks written, or none where no plan is legal; then the marks

@@ -17,7 +17,8 @@ use net::limit::Limit;
 use net::records::Route;
 use search_cells::{Entry, Family};
 
-// The row of each index, in the first cells. `families` tells the children of each.
+// The row of each index, in the first cells. `families` tells the children of each. Spare sites and prices come as the two
+// lists that a host lends.
 pub(crate) fn walk<P: Cost>(
     cells: &mut [Option<Entry<P::Cell>>],
     route: &Route,

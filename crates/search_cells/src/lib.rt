@@ -14,7 +14,7 @@ pub struct Leg {
     pub entering: u8,
 }
 
-// No head buffer, and nothing enters: what is told of a child where nothing is chosen.
+// No head buffer, and nothing enters: what is told of a child where nothing is chosen, since each child is told something.
 pub const NO_LEG: Leg = Leg {
     head: false,
     entering: 0,

@@ -25,10 +25,7 @@ fn price_at(k: u8) -> Option<Costs>
 {
     let used = k as u16 % 3;
     let spare = k as u16 % 5;
-    if spare == 0 {
-        return None;
-    }
-    Some(Costs::price(used + spare, used, SHARE_UNIT))
+    (spare > 0).then(|| Costs::price(used + spare, used, SHARE_UNIT))
 }
 
 pub fn prices() -> [Option<Costs>; RECORDS]

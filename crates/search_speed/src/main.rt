@@ -92,6 +92,7 @@ fn print_net(
     }
 }
 
+// What is told of a net differs by `times` in one place, so it is handed down, and no closure for either.
 fn print_nets(rt: &HostRuntime, times: Option<u32>) -> io::Result<()> {
     let Ok(grid) = Grid::new(64, 64) else {
         return println!(rt; "no such grid");

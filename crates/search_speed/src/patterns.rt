@@ -1,4 +1,5 @@
-// The two nets with a regular pattern.
+// The two nets with a regular pattern. One function that took the rule of a pattern would promise what the rule does, and no
+// longer a strip or a comb.
 ghost use Rattle.std.specs.Prelude.{◌≡◌};
 ghost use Rattle.search_speed.specs.Patterns.{strip_record, comb_record};
 ghost use Rattle.search_speed.specs.Tables.{table};

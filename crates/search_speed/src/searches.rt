@@ -1,4 +1,4 @@
-// Searching one net over and over.
+// Searching one net over and over. Cells and marks have fixed room, of which a net takes what it needs.
 ghost use Rattle.std.specs.Prelude.{◌≡◌, length};
 ghost use Rattle.net.specs.Checked.{records_of};
 ghost use Rattle.best_plan.specs.Chosen.{chosen};
@@ -10,11 +10,11 @@ use crate::patterns::RECORDS;
 use cost::Cost;
 use net::limit::Limit;
 use net::records::Route;
-use search::{SearchFault, search};
+use search::{SPARE_ROWS, SearchFault, search};
 use search_cells::Entry;
 
 // The work cells for the most records at the largest limit.
-const CELLS: usize = (RECORDS + 10) * (Limit::LARGEST + 1);
+const CELLS: usize = (RECORDS + SPARE_ROWS) * (Limit::LARGEST + 1);
 
 // A work cell.
 type Cell = Option<Entry<<Costs as Cost>::Cell>>;

@@ -23,7 +23,7 @@ fn next_dice(dice: u32) -> u32
 }
 
 // The tile left of this one, right of it, above it or below it, on a grid of 64 rows and columns. Numbers go round at
-// its ends, so that past an edge the tile told is no neighbour.
+// its ends, so that past an edge the tile told is no neighbour. A side is a number, as the dice tell it.
 fn tile_beside(tile: u16, side: u32) -> u16
     ensures { result ≡ tile_beside tile side }
 {

@@ -1,4 +1,5 @@
-// Hosts that stack layers over a lent table and over an open stock.
+// Hosts that stack layers over a lent table and over an open stock. Which layer lies on which is the order of two lines, so
+// each order has a function of its own.
 ghost use Rattle.std.specs.Prelude.{◌≡◌};
 ghost use Rattle.counted.specs.Table.{of_table, rest};
 ghost use Rattle.stacks.specs.Stacked.{closure_on_reserve, drained, open_answer, reserve_on_closure};

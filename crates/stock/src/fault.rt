@@ -19,7 +19,7 @@ pub enum StockFault {
 }
 
 impl StockFault {
-    // The refusal's number.
+    // The refusal's number. Hosts are told refusals by number: each has its own by the rules.
     pub fn number(self) -> u16
         ensures { result ≡ number_in (told self) }
     {

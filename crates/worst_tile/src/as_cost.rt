@@ -9,7 +9,7 @@ ghost use Rattle.worst_tile.specs.WorstTiles.{worst_tile, worst_tiles};
 use crate::amount::{CEILING, WorstTile};
 use cost::{Cost, Pricing};
 
-// A price counts thousandths.
+// A price counts thousandths. Each kind says its own parts.
 const THOUSANDTHS: u32 = 1000;
 
 fn capped(value: u16) -> WorstTile

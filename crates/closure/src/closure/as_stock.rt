@@ -12,6 +12,7 @@ use layer::take_below;
 use stock::fault::StockFault;
 use stock::stock::Stock;
 
+// The calls that pass on stand in each layer: to share them would take one that lends the stock below, with a clause on it.
 impl<'b, S: Stock> Stock for Closure<'b, S> {
     ghost meaning = { λ s. closing s.marks (S.Stock.meaning s.below.now) };
 

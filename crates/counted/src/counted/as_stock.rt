@@ -49,6 +49,7 @@ impl<'a> Counted<'a> {
     }
 }
 
+// The short methods stand in each stock: a shared form would ask for `at` and `put` to save five lines.
 impl<'a> Stock for Counted<'a> {
     ghost meaning = { means };
 

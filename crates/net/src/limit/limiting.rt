@@ -9,7 +9,7 @@ impl Limit {
     // The largest limit that there is.
     pub const LARGEST: usize = 16;
 
-    // The limit of this figure. Refused with 6 and the figure outside 1 to the largest.
+    // The limit of this figure; by name, where a `TryFrom` would not say that a limit is meant. Refused with 6 and the figure outside 1 to the largest.
     pub fn new(figure: usize) -> Result<Limit, LimitFault>
         ensures answer { figure_of result ≡ limited figure }
         ensures told { told_by told result ≡ limit_refusal figure }

@@ -5,17 +5,17 @@ ghost use Rattle.net.specs.Proper.{Proper};
 ghost use Rattle.net.specs.Routes.{told, route_refusal, record_told};
 ghost use Rattle.net.specs.Checked.{records_of, parts_of, route_checked};
 
-use crate::records::Route;
 use crate::records::record::{Record, RouteFault};
 use crate::records::scan::check_records;
+use crate::records::{MOST_RECORDS, Route};
 use grid::shape::Grid;
 
 // The places of a route, with these records in the first of them.
-fn placed(records: &[Record]) -> [Record; 256]
+fn placed(records: &[Record]) -> [Record; MOST_RECORDS]
     requires { length records.now ≤ 256 }
     ensures { take (length records.now) result ≡ records.now }
 {
-    let mut places = [Record::default(); 256];
+    let mut places = [Record::default(); MOST_RECORDS];
     places[..records.len()].copy_from_slice(records);
     places
 }

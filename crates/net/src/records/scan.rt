@@ -1,17 +1,17 @@
 // The check of records as a route, in one pass for the records and one for their ends. A mark for each tile of the
-// largest grid tells whether it stood at an earlier index, and a mark for each index whether it is a parent.
+// largest grid tells whether it stood at an earlier index, and a mark for each index whether it is a parent; both tables have
+// fixed room, since nothing is allocated.
 ghost use Rattle.std.specs.Prelude.{◌≡◌, ◌<◌, ◌≤◌, true, length};
 ghost use Rattle.net.specs.Lowest.{lowest, fault_of};
 ghost use Rattle.net.specs.Marks.{TilesMarked, ParentsMarked};
 ghost use Rattle.net.specs.Routes.{parent_of, parent_fits, beside_parent, record_fault, end_fault, route_fault};
 
+use crate::records::MOST_RECORDS;
 use crate::records::record::{Record, RouteFault};
 use grid::shape::Grid;
 
-// The most tiles that a grid has, and the most records that a net has.
+// The most tiles that a grid has.
 const TILES: usize = 4096;
-
-const MOST: usize = 256;
 
 fn parent_fits(parent: usize, index: usize) -> bool
     ensures { result ≡ parent_fits parent index }
@@ -74,14 +74,15 @@ fn check_each(grid: Grid, records: &[Record]) -> Result<(), RouteFault>
     Ok(())
 }
 
-// A mark for each index that is a parent.
-fn mark_parents(records: &[Record]) -> [bool; MOST]
+// A mark for each index that is a parent. The driver names itself, and is counted in and passed over: past a `skip` an
+// invariant would not know the index.
+fn mark_parents(records: &[Record]) -> [bool; MOST_RECORDS]
     ensures { ParentsMarked records.now (length records.now) result }
 {
-    let mut parents = [false; MOST];
+    let mut parents = [false; MOST_RECORDS];
     for (k, record) in records.iter().enumerate() {
         let parent = usize::from(record.parent);
-        if k > 0 && parent < MOST {
+        if k > 0 && parent < MOST_RECORDS {
             parents[parent] = true;
         }
     }
@@ -107,7 +108,7 @@ fn check_ends(records: &[Record]) -> Result<(), RouteFault>
 pub fn check_records(grid: Grid, records: &[Record]) -> Result<(), RouteFault>
     ensures { fault_of result ≡ route_fault grid records.now }
 {
-    if records.is_empty() || records.len() > MOST {
+    if records.is_empty() || records.len() > MOST_RECORDS {
         return Err(RouteFault::Count(records.len()));
     }
     check_each(grid, records)?;

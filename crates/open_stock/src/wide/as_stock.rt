@@ -37,6 +37,7 @@ impl OpenStock {
     }
 }
 
+// The short methods stand in each stock: a shared form would ask for `at` and `put` to save five lines.
 impl Stock for OpenStock {
     ghost meaning = { means };
 

@@ -11,7 +11,7 @@ use stock::fault::StockFault;
 const ALL: usize = 100;
 
 impl Percent {
-    // Refused above 100, with the figure.
+    // Refused above 100, with the figure. By name, where a `TryFrom` would not say that a percentage is meant.
     pub fn new(figure: usize) -> Result<Percent, StockFault>
         ensures answer { MatchResult result (λ p. p.value ≡ figure) (λ f. f ≡ TooLarge figure) }
         ensures told { told_by told result ≡ percent_refusal figure }

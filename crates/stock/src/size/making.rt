@@ -9,7 +9,7 @@ use crate::fault::StockFault;
 use crate::size::{MOST_PLACES, Size};
 
 impl Size {
-    // Refused above 8,192 places, with the figure.
+    // Refused above 8,192 places, with the figure. By name, where a `TryFrom` would not say that a size is meant.
     pub fn new(places: usize) -> Result<Size, StockFault>
         ensures answer { MatchResult result (λ s. s.places ≡ places) (λ f. f ≡ TooLarge places) }
         ensures told { told_by told result ≡ size_refusal places }
