@@ -30,7 +30,8 @@ pub(crate) fn cheaper<P: Cost, W: Copy>(
     }
 }
 
-// The cheapest of what `cell` answers at 0 to `n` - 1, the first of those that tie.
+// The cheapest of what `cell` answers at 0 to `n` - 1, the first of those that tie. A loop: a `fold` asks that `cell` may be
+// called at any number, and these may only below `n`.
 pub(crate) fn cheapest<P: Cost, W: Copy, F: Fn(usize) -> Option<Priced<P::Cell, W>>>(
     n: usize,
     cell: F,
