@@ -42,7 +42,7 @@ pub trait Cost: Copy {
 pub trait Pricing: Cost {
     ghost priced: { ℕ → ℕ → ℕ → Self.Cell };
 
-    // The price of one site, where the capacity exceeds the use.
+    // The price of one site, where the capacity exceeds the use: the one thing that the rules let a call ask.
     fn price(capacity: u16, used: u16, share: u32) -> Self
         requires { used < capacity }
         ensures { Self.Cost.stored result ≡ priced capacity used share };
