@@ -25,7 +25,11 @@ fn price_at(k: u8) -> Option<Costs>
 {
     let used = k as u16 % 3;
     let spare = k as u16 % 5;
-    (spare > 0).then(|| Costs::price(used + spare, used, SHARE_UNIT))
+    // By an early none: with `then` the goal `returns` stays open.
+    if spare == 0 {
+        return None;
+    }
+    Some(Costs::price(used + spare, used, SHARE_UNIT))
 }
 
 pub fn prices() -> [Option<Costs>; RECORDS]
