@@ -82,6 +82,7 @@ impl<'a, P: Cost> Case<'a, P> {
         let Ok(limit) = Limit::new(figure) else {
             return NO_ANSWER;
         };
+        // Fixed room, of which the route takes what it needs.
         let mut marks = [0; RECORDS];
         let places = self.places();
         self.searched(limit, cells, &mut marks[..places])

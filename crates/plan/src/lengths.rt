@@ -25,7 +25,8 @@ fn passed(mark: u8, hangs: u16) -> u16
     }
 }
 
-// One step of the walk: the length of the parent of this index grows by what the index passes up.
+// One step of the walk: the length of the parent of this index grows by what the index passes up. That it is an index of
+// the route is for a clause: a type for such an index would have to name the route.
 fn pass_up(route: &Route, marks: &[u8], index: usize, lengths: &mut [u16])
     requires later { 0 < index }
     requires within { index < length (records_of route.now) }

@@ -14,6 +14,7 @@ pub fn needs(route: &Route, marks: &[u8]) -> [u16; MOST_RECORDS]
     ensures answer { result ≡ map (need (records_of route.now) marks.now) (range_with_len 0 256) }
     ensures local { Plan (records_of route.now) marks.now → NeedsAreLocal (records_of route.now) marks.now }
 {
+    // Fixed room, since nothing is allocated.
     let mut needs = [0; MOST_RECORDS];
     for (index, record) in route.records().iter().enumerate() {
         let mark = mark_at(marks, index);

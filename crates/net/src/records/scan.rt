@@ -23,7 +23,8 @@ fn parent_fits(parent: usize, index: usize) -> bool
     }
 }
 
-// Whether the record at this index, whose parent fits, is the driver or stands beside its parent.
+// Whether the record at this index, whose parent fits, is the driver or stands beside its parent. That the index is one of
+// these records is for clauses, here and below: a type for such an index would have to name the records.
 fn beside_parent(grid: Grid, records: &[Record], index: usize) -> bool
     requires within { index < length records.now }
     requires fits { parent_fits (parent_of records.now index) index ≡ true }
@@ -62,7 +63,8 @@ fn check_record(
     Ok(())
 }
 
-// Refuses the lowest index whose record is wrong.
+// Refuses the lowest index whose record is wrong. It stands beside `check_ends`: one function for both would take each test
+// as a closure, and owe its clause.
 fn check_each(grid: Grid, records: &[Record]) -> Result<(), RouteFault>
     ensures { fault_of result ≡ lowest (record_fault grid records.now) (length records.now) }
 {
