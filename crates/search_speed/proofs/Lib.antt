@@ -1,3 +1,4 @@
 pub mod Filling
 pub mod Repeated
 pub mod Room
+pub mod Growing

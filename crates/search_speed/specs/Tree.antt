@@ -1,6 +1,6 @@
 -- A tree that grows by throws of dice. Each throw picks one of the tiles that stand and a side: if the tile on that side
 -- is one of the grid and free, it joins the tree and hangs from the one that was picked.
-use Rattle.std.specs.Prelude.{ℕ, zero, suc, ◌+◌, ◌*◌, ◌/◌, ◌%◌, Bool, true, cond, not, ◌&&◌, List, [], ◌∷◌, ◌++◌, length, Some, None, Option, ◌==◌, nat_lt}
+use Rattle.std.specs.Prelude.{ℕ, zero, suc, ◌+◌, ◌*◌, ◌/◌, ◌%◌, Bool, true, cond, not, ◌&&◌, List, [], ◌∷◌, ◌++◌, length, take, replicate, Some, None, Option, ◌==◌, nat_lt, slice_set}
 use Rattle.std.specs.List.{list_any}
 use Rattle.grid.specs.declared.shape.Grid.{Grid}
 use Rattle.grid.specs.Boundaries.{neighbours}
@@ -43,21 +43,33 @@ sprout g rs dice =
     (joins g rs (picked_index (length rs) dice) (tile_beside (tile_of rs (picked_index (length rs) dice)) (picked_side dice)))
     None
 
--- what a throw leaves of these records: up to 256 of them it may add one behind them
-abbrev pub added : List Record → Option Record → List Record
-added rs None = rs
-added rs (Some r) = rs ++ r ∷ []
+-- so many records stand in a table; where there is room, a throw may add one behind them
+abbrev pub added : List Record → ℕ → Option Record → List Record
+added rs count None = rs
+added rs count (Some r) = slice_set rs count r
 
-abbrev pub records_after : Grid → List Record → ℕ → List Record
-records_after g rs dice = cond (nat_lt (length rs) 256) (added rs (sprout g rs dice)) rs
+abbrev pub counted : ℕ → Option Record → ℕ
+counted count None = count
+counted count (Some r) = count + 1
 
--- the dice as they lie, and the records that stand
+abbrev pub records_after : Grid → List Record → ℕ → ℕ → List Record
+records_after g rs count dice = cond (nat_lt count (length rs)) (added rs count (sprout g (take count rs) dice)) rs
+
+abbrev pub count_after : Grid → List Record → ℕ → ℕ → ℕ
+count_after g rs count dice = cond (nat_lt count (length rs)) (counted count (sprout g (take count rs) dice)) count
+
+-- the dice as they lie, how many records stand, and the table that they stand in
 pub record Growth : Type 0 where
   pub dice : ℕ
+  pub count : ℕ
   pub records : List Record
 
 abbrev pub throw : Grid → Growth → Growth
-throw g t = record { dice = next_dice t.dice; records = records_after g t.records (next_dice t.dice) }
+throw g t = record {
+  dice = next_dice t.dice;
+  count = count_after g t.records t.count (next_dice t.dice);
+  records = records_after g t.records t.count (next_dice t.dice);
+}
 
 -- the driver stands in the middle of the largest grid
 abbrev pub driver : Record
@@ -65,5 +77,17 @@ driver = record { tile = 2080; parent = 0; sink = true }
 
 -- the tree after so many throws
 unfoldable pub grown : Grid → ℕ → Growth
-grown g zero = record { dice = 1; records = driver ∷ [] }
+grown g zero = record { dice = 1; count = 1; records = replicate 256 driver }
 grown g (suc n) = throw g (grown g n)
+
+-- the records that stand in the table
+abbrev pub standing : Growth → List Record
+standing t = take t.count t.records
+
+-- what a throw leaves of the records that stand: up to 256 of them it may add one behind them
+abbrev pub one_more : List Record → Option Record → List Record
+one_more rs None = rs
+one_more rs (Some r) = rs ++ r ∷ []
+
+abbrev pub standing_after : Grid → List Record → ℕ → List Record
+standing_after g rs dice = cond (nat_lt (length rs) 256) (one_more rs (sprout g rs dice)) rs

@@ -1,6 +1,6 @@
 // A net that is grown at random: tile by tile, each beside one that stands.
 ghost use Rattle.std.specs.Prelude.{◌≡◌};
-ghost use Rattle.search_speed.specs.Tree.{next_dice, tile_beside, stands, sprout, records_after, grown};
+ghost use Rattle.search_speed.specs.Tree.{next_dice, tile_beside, stands, sprout, standing, standing_after, grown};
 
 use crate::patterns::RECORDS;
 use arrayvec::ArrayVec;
@@ -67,7 +67,7 @@ fn sprout(grid: Grid, records: &[Record], dice: u32) -> Option<Record>
 
 // One throw, which may add a record to these. A full tree stays.
 fn grow(grid: Grid, records: &mut ArrayVec<Record, RECORDS>, dice: u32)
-    ensures { records.new.items ≡ records_after grid records.old.items dice }
+    ensures { records.new.items ≡ standing_after grid records.old.items dice }
 {
     if records.is_full() {
         return;
@@ -79,7 +79,7 @@ fn grow(grid: Grid, records: &mut ArrayVec<Record, RECORDS>, dice: u32)
 
 // The records of the tree after all the throws, its driver in the middle of a grid of 64 rows and columns.
 pub fn tree(grid: Grid) -> ArrayVec<Record, RECORDS>
-    ensures { result.items ≡ (grown grid 8192).records }
+    ensures { result.items ≡ standing (grown grid 8192) }
 {
     let mut records = ArrayVec::new();
     records.push(Record {

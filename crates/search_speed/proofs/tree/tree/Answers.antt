@@ -1,11 +1,12 @@
-use Rattle.std.proofs.Common.{◌≡◌, ℕ, List, refl, ap, ◌∙◌, add-one, rules}
+use Rattle.std.proofs.Common.{◌≡◌, ℕ, List, take, lit≤, refl, ap, ◌∙◌, add-one, rules}
 use Rattle.net.specs.declared.records.record.Record.{Record}
-use Rattle.search_speed.specs.Tree.{next_dice, records_after, grown}
+use Rattle.search_speed.specs.Tree.{next_dice, standing_after, grown}
+use Rattle.search_speed.proofs.Growing.{grows}
 use Rattle.search_speed.proofs.tree.tree.Goals as goal
 
 pub loop-throw-init : goal.loop-throw-init
 unfolding grown
-loop-throw-init c = (refl, search rules)
+loop-throw-init c = (refl, record { same = search rules; few = lit≤ tt; all = search rules })
 
 pub loop-throw-preserved : goal.loop-throw-preserved
 unfolding grown
@@ -13,7 +14,13 @@ loop-throw-preserved c =
     let g = c.args.grid in
     let t = grown g c.loop-throw._throw in
     let dice : c.next_dice-dice.result ≡ next_dice t.dice = c.next_dice-dice.ensures ∙ ap next_dice c.loop-throw.invariant.0 in
+    let now = c.loop-throw.invariant.1 in
+    let next = grows g t.records t.count (next_dice t.dice) now.few now.all in
     rw (add-one c.loop-throw._throw) (
       dice,
-      c.grow.ensures ∙ (ap (λ (rs : List Record). records_after g rs c.next_dice-dice.result) c.loop-throw.invariant.1 ∙ ap (λ (d : ℕ). records_after g t.records d) dice),
+      record {
+        same = c.grow.ensures ∙ (ap (λ (rs : List Record). standing_after g rs c.next_dice-dice.result) now.same ∙ (ap (λ (d : ℕ). standing_after g (take t.count t.records) d) dice ∙ next.same));
+        few = next.few;
+        all = next.all;
+      },
     )
