@@ -2,7 +2,6 @@
 // drives, and what the check says of the plan, so that a person can follow the length rule by eye.
 #![tactic(auto)]
 
-use anyhow::Context;
 use grid::shape::Grid;
 use hand_plan::check_plan;
 use length_rule::Gate;
@@ -46,44 +45,48 @@ fn print_plan(
     figure: usize,
     spare: &[u16],
     marks: &[u8],
-) -> anyhow::Result<()> {
+) -> io::Result<()> {
     println!(rt; "limit {figure}, spare sites {spare:?}, marks {marks:?}")?;
     print_gates(rt, route, marks)?;
-    let limit = Limit::new(figure).ok().context("no such limit")?;
+    let Ok(limit) = Limit::new(figure) else {
+        return println!(rt; "  no such limit");
+    };
     match check_plan(limit, route, spare, marks) {
-        Ok(()) => println!(rt; "  legal")?,
-        Err(fault) => println!(rt; "  refused with {fault}")?,
+        Ok(()) => println!(rt; "  legal"),
+        Err(fault) => println!(rt; "  refused with {fault}"),
     }
-    Ok(())
 }
 
-// The route of these records on a grid of these sides.
-fn route_on(rows: usize, columns: usize, records: &[Record]) -> anyhow::Result<Route> {
-    let grid = Grid::new(rows, columns).ok().context("no such grid")?;
-    Route::check(grid, records).ok().context("no such route")
+// The route of these records on a grid of these sides, if they are one.
+fn route_on(rows: usize, columns: usize, records: &[Record]) -> Option<Route> {
+    let grid = Grid::new(rows, columns).ok()?;
+    Route::check(grid, records).ok()
 }
 
-fn main(rt: HostRuntime) -> anyhow::Result<()> {
+// An `io::Result`, so that a write that fails is told as the library tells it.
+fn main(rt: HostRuntime) -> io::Result<()> {
     let branches = [
         at(1, 0, false),
         at(2, 0, false),
         at(3, 1, true),
         at(0, 0, true),
     ];
-    let route = route_on(1, 4, &branches)?;
-    println!(rt; "A driver with branches of two tiles and of one")?;
-    print_plan(&rt, &route, 3, &[0; 4], &[0; 4])?;
-    print_plan(&rt, &route, 2, &[0; 4], &[0; 4])?;
-
+    if let Some(route) = route_on(1, 4, &branches) {
+        println!(rt; "A driver with branches of two tiles and of one")?;
+        print_plan(&rt, &route, 3, &[0; 4], &[0; 4])?;
+        print_plan(&rt, &route, 2, &[0; 4], &[0; 4])?;
+    }
     let join = [
         at(3, 0, false),
         at(4, 0, false),
         at(1, 1, true),
         at(7, 1, true),
     ];
-    let route = route_on(3, 3, &join)?;
-    println!(rt; "A driver, a join, and two sinks beside the join")?;
-    print_plan(&rt, &route, 1, &[0, 2, 0, 0], &[0, 0, 1, 1])?;
-    print_plan(&rt, &route, 1, &[0, 1, 0, 0], &[0, 0, 1, 1])?;
-    print_plan(&rt, &route, 2, &[0, 1, 0, 0], &[0, 2, 0, 0])
+    if let Some(route) = route_on(3, 3, &join) {
+        println!(rt; "A driver, a join, and two sinks beside the join")?;
+        print_plan(&rt, &route, 1, &[0, 2, 0, 0], &[0, 0, 1, 1])?;
+        print_plan(&rt, &route, 1, &[0, 1, 0, 0], &[0, 0, 1, 1])?;
+        print_plan(&rt, &route, 2, &[0, 1, 0, 0], &[0, 2, 0, 0])?;
+    }
+    Ok(())
 }

@@ -15,7 +15,11 @@ use plan::needs::needs;
 pub fn kth_price<P: Cost>(price: Option<P>, k: usize) -> P
     ensures { result ≡ kth_price P.Cost.nothing P.Cost.plus price k }
 {
-    price.unwrap_or(P::nothing())
+    // A `match`: by `unwrap_or` nothing would be asked for beside each price.
+    match price {
+        Some(price) => price,
+        None => P::nothing(),
+    }
 }
 
 // What so many sites cost in a tile of this price.

@@ -6,7 +6,7 @@ ghost use Rattle.refusal.specs.Told.{told_by};
 ghost use Rattle.search.specs.Answers.{cells_needed, cost_of, marks_of_chosen, search_answer, search_refusal, marks_after, told, TellsBest, RestsOnNet};
 ghost use Rattle.search_theory.specs.Costs.{kind_of};
 
-use crate::families::link;
+use crate::families::{NO_CHILDREN, link};
 use crate::fault::SearchFault;
 use crate::least::best_entry;
 use crate::marks::Rows;
@@ -14,7 +14,7 @@ use crate::places::{nth_row, width};
 use crate::walk::walk;
 use cost::Cost;
 use net::limit::Limit;
-use net::records::Route;
+use net::records::{MOST_RECORDS, Route};
 use search_cells::Entry;
 
 // The rows of cells that a search needs beside those of the records.
@@ -34,7 +34,9 @@ fn planned<P: Cost>(
     ensures answer { result ≡ cost_of (chosen (kind_of P.Cost) limit.value (records_of route.now) spare.now prices.now) }
     ensures marks { marks.new ≡ marks_of_chosen marks.old (chosen (kind_of P.Cost) limit.value (records_of route.now) spare.now prices.now) }
 {
-    let (families, ranks) = link(route);
+    let mut families = [NO_CHILDREN; MOST_RECORDS];
+    let mut ranks = [0; MOST_RECORDS];
+    link(route, &mut families, &mut ranks);
     walk::<P>(cells, route, &families, spare, prices, limit);
     let first = best_entry::<P>(nth_row(cells, limit, 0))?;
     let rows = Rows::<P> {

@@ -1,9 +1,9 @@
 -- Each index is linked to its parent, whose children so far are its siblings before it.
-use Rattle.std.proofs.Common.{◌≡◌, ℕ, ◌+◌, ◌<◌, ◌≤◌, [], ◌∷◌, ◌++◌, replicate, length, get_or, set, refl, ap, subst, sym, ◌∙◌, arith, length-set}
-use Rattle.std.proofs.lemmas.List.{get_or-replicate, length_push}
+use Rattle.std.proofs.Common.{◌≡◌, ℕ, ◌+◌, ◌<◌, ◌≤◌, [], ◌∷◌, ◌++◌, length, get_or, set, ap, subst, sym, ◌∙◌, arith, length-set}
+use Rattle.std.proofs.lemmas.List.{length_push}
 use Rattle.net.specs.Checked.{records_of}
 use Rattle.net.specs.Routes.{parent_of}
-use Rattle.search_cells.specs.Families.{no_family, members, members_at, children_before, rank_of}
+use Rattle.search_cells.specs.Families.{no_family, members_at, children_before, rank_of}
 use Rattle.search_cells.proofs.Inplace.{first_only, set_more}
 use Rattle.search_cells.proofs.Kinship.{rank_is, few_siblings, linked_more}
 use Rattle.search_cells.proofs.Pushing.{pushed}
@@ -13,22 +13,17 @@ use Rattle.search.proofs.Turns.{next_turn, last_turn}
 use Rattle.search.proofs.families.link.Goals as goal
 
 pub loop-k-init : goal.loop-k-init
-loop-k-init c = (
-  refl,
-  refl,
-  λ i l. ap members (get_or-replicate 256 i (record { count = 0; items = replicate 4 0 }) no_family (omega (arith, few c.args.route.now))),
-  first_only (λ j. get_or (replicate 256 0) j 0 ≡ rank_of (records_of c.args.route.now) j) refl,
-)
+loop-k-init c = (c.requires.wide, c.requires.long, c.requires.fresh, first_only (λ j. get_or c.args.ranks.now j 0 ≡ rank_of (records_of c.args.route.now) j) c.requires.first)
 
 pub bounds-families-parent : goal.bounds-families-parent
 bounds-families-parent c =
     let rs = records_of c.args.route.now in
-    parent_small c.args.route.now _ _ _ (next_turn rs _ (cc) (cc) (cc) c.loop-k.yielded _ c.loop-k.yielded_by _ _ c.in-Some.k c.in-Some.record c.in-Some.is c.next.ensures.steps)
+    omega (arith, c.loop-k.invariant.0, parent_small c.args.route.now _ _ _ (next_turn rs _ (cc) (cc) (cc) c.loop-k.yielded _ c.loop-k.yielded_by _ _ c.in-Some.k c.in-Some.record c.in-Some.is c.next.ensures.steps))
 
-pub bounds-families-parent-in-loop-k : goal.bounds-families-parent-in-loop-k
-bounds-families-parent-in-loop-k c =
+pub slice_copy_out-family : goal.slice_copy_out-family
+slice_copy_out-family c =
     let rs = records_of c.args.route.now in
-    parent_small c.args.route.now _ _ _ (next_turn rs _ (cc) (cc) (cc) c.loop-k.yielded _ c.loop-k.yielded_by _ _ c.in-Some.k c.in-Some.record c.in-Some.is c.next.ensures.steps)
+    omega (arith, c.loop-k.invariant.0, parent_small c.args.route.now _ _ _ (next_turn rs _ (cc) (cc) (cc) c.loop-k.yielded _ c.loop-k.yielded_by _ _ c.in-Some.k c.in-Some.record c.in-Some.is c.next.ensures.steps))
 
 pub loop-k-preserved : goal.loop-k-preserved
 loop-k-preserved c =

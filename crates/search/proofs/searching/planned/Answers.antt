@@ -1,5 +1,7 @@
 -- The rows are the search's, so the driver's best entry and the marks handed down are the plan that is chosen.
-use Rattle.std.proofs.Common.{Some, ap, ◌∙◌, arith}
+use Rattle.std.proofs.Common.{Some, refl, replicate, ap, ◌∙◌, arith}
+use Rattle.std.proofs.lemmas.List.{get_or-replicate}
+use Rattle.search_cells.specs.Families.{no_family, members}
 use Rattle.net.specs.Checked.{records_of}
 use Rattle.search_theory.specs.Costs.{kind_of}
 use Rattle.search_theory.specs.Joining.{best_entry}
@@ -9,6 +11,14 @@ use Rattle.search_cells.proofs.Narrow.{searchable}
 use Rattle.search.proofs.Nets.{few}
 use Rattle.search.proofs.Outcome.{whole_choices, none_chosen, some_chosen}
 use Rattle.search.proofs.searching.planned.Goals as goal
+
+pub link-requires : goal.link-requires
+link-requires g c = record {
+  wide = refl;
+  long = refl;
+  first = refl;
+  fresh = λ i l. ap members (get_or-replicate 256 i (record { count = 0; items = replicate 4 0 }) no_family (omega (arith, few c.args.route.now)));
+}
 
 pub walk-requires : goal.walk-requires
 walk-requires g c = record { own = c.requires.own; wide = omega (arith, few c.args.route.now); told = c.link.ensures.families }
