@@ -1,20 +1,20 @@
-// Congestion as a cost kind, as a pricing and as a strict kind.
+// Congestion as a cost kind and as a pricing.
 ghost use Rattle.std.specs.Prelude.{◌≡◌, ◌<◌};
 ghost use Rattle.laws.specs.Amounts.{amount_at_most, capped_sum};
 ghost use Rattle.laws.specs.Fractions.{RoundedDown};
-ghost use Rattle.laws.proofs.Bounded.{amount_reads_back, capped_laws, capped_strict};
+ghost use Rattle.laws.proofs.Bounded.{amount_reads_back, capped_laws};
 ghost use Rattle.shares.specs.Shares.{share_unit};
 ghost use Rattle.congestion.specs.Congestions.{congestion, congestions};
-ghost use Rattle.congestion.specs.Price.{congestion_ceiling, congestion_price, price_over, price_under};
+ghost use Rattle.congestion.specs.Price.{congestion_price, price_over, price_under};
 
 use crate::amount::{CEILING, Congestion};
-use cost::{Cost, Pricing, Strict};
+use cost::{Cost, Pricing};
 use shares::SHARE_UNIT;
 
 // A price counts thousandths. Each kind says its own parts.
 const THOUSANDTHS: u64 = 1000;
 
-fn capped(value: u64) -> Congestion
+pub(crate) fn capped(value: u64) -> Congestion
     ensures { result ≡ congestion value }
 {
     Congestion {
@@ -83,14 +83,4 @@ impl Pricing for Congestion {
             value: fraction(capacity, used, share),
         }
     }
-}
-
-impl Strict for Congestion {
-    ghost ceiling = { congestion congestion_ceiling };
-
-    fn ceiling() -> Congestion {
-        capped(CEILING)
-    }
-
-    ghost strict = { capped_strict congestions };
 }

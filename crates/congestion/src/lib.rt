@@ -6,5 +6,6 @@
 
 pub mod amount;
 pub mod as_cost;
+pub mod as_strict;
 
 pub use amount::Congestion;

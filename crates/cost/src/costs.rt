@@ -38,6 +38,55 @@ pub trait Cost: Copy {
     ghost kept: { ReadsBack stored held };
 }
 
+// A strict kind has a ceiling below which a sum keeps what is strictly less. It stands alone, with the laws of a cost
+// kind and a price among its own, so that a pair can ask for it and nothing else.
+pub trait Strict: Copy {
+    type Slot: Copy;
+
+    ghost nothing: { Self };
+
+    ghost plus: { Self → Self → Self };
+
+    ghost at_most: { Self → Self → Bool };
+
+    ghost ceiling: { Self };
+
+    ghost stored: { Self → Self.Slot };
+
+    ghost held: { Self.Slot → Self };
+
+    ghost priced: { ℕ → ℕ → ℕ → Self.Slot };
+
+    fn nothing() -> Self
+        ensures { result ≡ nothing };
+
+    fn plus(self, other: Self) -> Self
+        ensures { result ≡ plus self other };
+
+    fn at_most(self, other: Self) -> bool
+        ensures { result ≡ at_most self other };
+
+    fn ceiling() -> Self
+        ensures { result ≡ ceiling };
+
+    fn to_slot(self) -> Self::Slot
+        ensures { result ≡ stored self };
+
+    fn from_slot(slot: Self::Slot) -> Self
+        ensures { result ≡ held slot };
+
+    // The price of one site, where the capacity exceeds the use.
+    fn price(capacity: u16, used: u16, share: u32) -> Self
+        requires { used < capacity }
+        ensures { stored result ≡ priced capacity used share };
+
+    ghost lawful: { CostLaws nothing plus at_most };
+
+    ghost strict: { StrictLaws plus at_most ceiling };
+
+    ghost kept: { ReadsBack stored held };
+}
+
 // A pricing tells what one site costs. `priced` has the price as the plain numbers that the cost kind stores.
 pub trait Pricing: Cost {
     ghost priced: { ℕ → ℕ → ℕ → Self.Cell };
@@ -46,15 +95,4 @@ pub trait Pricing: Cost {
     fn price(capacity: u16, used: u16, share: u32) -> Self
         requires { used < capacity }
         ensures { Self.Cost.stored result ≡ priced capacity used share };
-}
-
-// A strict kind has a ceiling, below which a sum keeps what is strictly less. It is a pricing, so that a pair can ask for
-// it and nothing else.
-pub trait Strict: Pricing {
-    ghost ceiling: { Self };
-
-    fn ceiling() -> Self
-        ensures { result ≡ ceiling };
-
-    ghost strict: { StrictLaws Self.Cost.plus Self.Cost.at_most ceiling };
 }

@@ -1,17 +1,17 @@
-// Count as a cost kind, as a pricing and as a strict kind.
+// Count as a cost kind and as a pricing.
 ghost use Rattle.std.specs.Prelude.{◌≡◌};
 ghost use Rattle.laws.specs.Amounts.{amount_at_most, capped_sum};
-ghost use Rattle.laws.proofs.Bounded.{amount_reads_back, capped_laws, capped_strict};
+ghost use Rattle.laws.proofs.Bounded.{amount_reads_back, capped_laws};
 ghost use Rattle.count.specs.Counts.{count, counts};
-ghost use Rattle.count.specs.Price.{count_ceiling, count_price};
+ghost use Rattle.count.specs.Price.{count_price};
 
 use crate::amount::{CEILING, Count};
-use cost::{Cost, Pricing, Strict};
+use cost::{Cost, Pricing};
 
 // What each site counts.
 const ONE_SITE: u16 = 1;
 
-fn capped(value: u32) -> Count
+pub(crate) fn capped(value: u32) -> Count
     ensures { result ≡ count value }
 {
     Count {
@@ -63,14 +63,4 @@ impl Pricing for Count {
     fn price(_capacity: u16, _used: u16, _share: u32) -> Count {
         Count { value: ONE_SITE }
     }
-}
-
-impl Strict for Count {
-    ghost ceiling = { count count_ceiling };
-
-    fn ceiling() -> Count {
-        capped(CEILING as u32)
-    }
-
-    ghost strict = { capped_strict counts };
 }
