@@ -1,5 +1,6 @@
--- One more place cleared.
-use Rattle.std.proofs.Common.{◌≡◌, ℕ, zero, suc, ◌+◌, ◌<◌, List, [], ◌∷◌, length, get_or, set, sym, refl, ap, ◌∙◌, add-one, arith}
+-- One more place cleared, and all of them.
+use Rattle.std.proofs.Common.{◌≡◌, ℕ, zero, suc, ◌+◌, ◌<◌, ◌≤◌, List, [], ◌∷◌, length, get_or, set, sym, refl, ap, ◌∙◌, add-one, arith, take_all}
+use Rattle.std.proofs.lemmas.List.{drop_all}
 use Rattle.counted.specs.declared.place.Place.{Place}
 use Rattle.counted.specs.Table.{cleared, unused}
 use Rattle.counted.proofs.Same.{same_place}
@@ -20,3 +21,7 @@ cleared_more i table so_far v d e h c u =
     ∙ ap (set (cleared i table) i) (same_place v (unused (get_or table i d)) (c ∙ ap (λ (l : List Place). (get_or l i d).capacity) e ∙ ap (λ (p : Place). p.capacity) (cleared_at i table d)) u)
     ∙ cleared_set i table d h
     ∙ ap (λ n. cleared n table) (sym (add-one i))
+
+-- past the table's end there is nothing left to clear
+pub cleared_past : (i j : ℕ) (table : List Place) → length table ≤ i → length table ≤ j → cleared i table ≡ cleared j table
+cleared_past i j table h k = simp (take_all, drop_all)

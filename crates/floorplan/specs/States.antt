@@ -8,7 +8,7 @@ use Rattle.floorplan.specs.declared.states.Entering.{Entering}
 use Rattle.floorplan.specs.declared.states.Floorplan.{Floorplan}
 use Rattle.floorplan.specs.declared.states.Sealed.{Sealed}
 
-abbrev pub world_at : {S : Type 0} → Stage → Floorplan S → Meaning → Meaning → List NetPlace → List RecordPlace → World
+abbrev world_at : {S : Type 0} → Stage → Floorplan S → Meaning → Meaning → List NetPlace → List RecordPlace → World
 world_at stage f sites wires nets records = record {
   grid = f.grid;
   places = f.places;

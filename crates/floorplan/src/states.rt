@@ -6,13 +6,17 @@ use grid::shape::Grid;
 
 mod sealing;
 
-// The state of a floorplan that nets are entered into.
+// The state of a floorplan that nets are entered into. No host makes one: its field is private.
 #[derive(Drop)]
-pub struct Entering;
+pub struct Entering {
+    made: (),
+}
 
-// The state of a floorplan that is planned.
+// The state of a floorplan that is planned. No host makes one either.
 #[derive(Drop)]
-pub struct Sealed;
+pub struct Sealed {
+    made: (),
+}
 
 // A floorplan in the state S: its grid, the net places at opening, and how many nets were entered.
 #[derive(Drop)]

@@ -1,18 +1,32 @@
--- What the scans of a plan made by hand read, at one index, is what the rule says there.
-use Rattle.std.proofs.Common.{◌≡◌, ℕ, ◌<◌, cond, List, length, get_or, take, map, ap, ◌∙◌, arith}
+-- What the scans of a plan made by hand read, at one index, is what the rule says there; and the gates that drive too much,
+-- over lists of gates that follow one another.
+use Rattle.std.proofs.Common.{◌≡◌, ℕ, ◌<◌, leb, cond, List, [], ◌∷◌, ◌++◌, length, get_or, take, map, Some, None, Option, refl, ap, ◌∙◌, arith}
 use Rattle.std.specs.List.{range_with_len}
 use Rattle.std.proofs.lemmas.List.{get_or-take, length-take}
 use Rattle.net.specs.Checked.{records_of}
+use Rattle.net.specs.Lowest.{or_else, unless}
 use Rattle.net.specs.Routes.{parent_of}
 use Rattle.net.specs.declared.records.Route.{Route}
 use Rattle.net.specs.declared.records.record.Record.{Record}
 use Rattle.length_rule.specs.declared.Gate.{Gate}
+use Rattle.length_rule.specs.declared.PlanFault.{PlanFault}
+use Rattle.length_rule.specs.declared.PlanFault.TheVariants.{Drives}
 use Rattle.length_rule.specs.Gates.{gates, need}
 use Rattle.length_rule.specs.Lengths.{hanging}
 use Rattle.length_rule.specs.Marks.{has_trunk, mark_at}
 use Rattle.length_rule.specs.Refusals.{over_limit, gate_fault}
 use Rattle.plan.proofs.Tallying.{need_told}
 use Rattle.plan.proofs.Walking.{hanging_told}
+
+or_else_assoc : {F : Type 0} (a b c : Option F) → or_else a (or_else b c) ≡ or_else (or_else a b) c
+or_else_assoc (Some x) b c = refl
+or_else_assoc None b c = refl
+
+pub over_append : (limit i : ℕ) (xs ys : List Gate) → over_limit limit i (xs ++ ys) ≡ or_else (over_limit limit i xs) (over_limit limit i ys)
+over_append limit i [] ys = refl
+over_append limit i (g ∷ xs) ys =
+    ap (λ (o : Option PlanFault). or_else (unless (leb g.drives limit) (Drives i g.drives)) o) (over_append limit i xs ys)
+    ∙ or_else_assoc (unless (leb g.drives limit) (Drives i g.drives)) (over_limit limit i xs) (over_limit limit i ys)
 
 module _ (r : Route) (ms : List ℕ) (i : ℕ) where
   -- the gates of an index, with what hangs there by the table

@@ -1,14 +1,14 @@
 -- What the tests of one record settle, and how the marks of tiles and of parents go on.
-use Rattle.std.proofs.Common.{◌≡◌, ℕ, ◌+◌, ◌<◌, Bool, true, false, not, ◌||◌, eqb, List, length, get_or, set, replicate, None, sym, refl, ap, ◌∙◌, subst, ⊎_elim, add-one, arith}
+use Rattle.std.proofs.Common.{◌≡◌, ℕ, ◌+◌, ◌<◌, ◌≤◌, Bool, true, false, not, ◌&&◌, ◌||◌, eqb, ltb, List, length, get_or, set, replicate, None, sym, refl, ap, ◌∙◌, subst, ⊎_elim, add-one, arith}
 use Rattle.std.proofs.lemmas.Nat.{mul-le}
 use Rattle.std.proofs.lemmas.List.{length-set, length-replicate, get_or-replicate, get_or-set_same, get_or-set_other}
-use Rattle.std.proofs.lemmas.Bool.{eq-eqb, ne_eqb, cases_eq, ltb-true}
+use Rattle.std.proofs.lemmas.Bool.{eq-eqb, ne_eqb, cases_eq, ltb-true, lt-ltb}
 use Rattle.grid.specs.declared.shape.Grid.{Grid}
 use Rattle.grid.specs.Tiles.{tile_count, has_tile}
 use Rattle.net.specs.declared.records.record.Record.{Record}
 use Rattle.net.specs.Lowest.{or_else, unless, some_below}
 use Rattle.net.specs.Marks.{TilesMarked, ParentsMarked}
-use Rattle.net.specs.Routes.{tile_of, parent_of, parent_fits, beside_parent, stands_earlier, record_fault}
+use Rattle.net.specs.Routes.{tile_of, parent_of, is_child, parent_fits, beside_parent, stands_earlier, record_fault}
 use Rattle.net.specs.declared.records.record.RouteFault.TheVariants.{OffGrid, Repeated}
 use Rattle.net.proofs.Firsts.{or_else_none, unless_none}
 
@@ -61,3 +61,20 @@ tile_marked rs i seen h m = (length-set seen (tile_of rs i) true ∙ m.0, marked
 -- index 0 is nobody's child
 pub no_parent_marked : (rs : List Record) → ParentsMarked rs 1 (replicate 256 false)
 no_parent_marked rs = (length-replicate 256 false, λ t h. unmarked 256 t h)
+
+first_not : (b : Bool) → (ltb 0 0 && b) ≡ false
+first_not b = refl
+
+later_child : (rs : List Record) (k t : ℕ) → 0 < k → is_child rs t k ≡ eqb (parent_of rs k) t
+later_child rs k t h = ap (λ (x : Bool). x && eqb (parent_of rs k) t) (lt-ltb 0 k h)
+
+pub parent_marked : (rs : List Record) (k : ℕ) (parents : List Bool) → 0 < k → parent_of rs k < 256 → ParentsMarked rs k parents → ParentsMarked rs (k + 1) (set parents (parent_of rs k) true)
+parent_marked rs k parents pos h m = (length-set parents (parent_of rs k) true ∙ m.0, marked_more (λ t j. is_child rs t j) k (parent_of rs k) 256 parents m.0 h (λ t. later_child rs k t pos) m.1)
+
+-- a parent past the marks is no index
+pub parent_past : (rs : List Record) (k : ℕ) (parents : List Bool) → 0 < k → 256 ≤ parent_of rs k → ParentsMarked rs k parents → ParentsMarked rs (k + 1) parents
+parent_past rs k parents pos h m = (
+  m.0,
+  λ t l. subst (λ (n : ℕ). get_or parents t false ≡ some_below (is_child rs t) n) (sym (add-one k))
+      (m.1 t l ∙ sym (or_same (some_below (is_child rs t) k) (is_child rs t k) (later_child rs k t pos ∙ ne_eqb (parent_of rs k) t (λ e. omega arith)))),
+)

@@ -1,10 +1,13 @@
 -- The lowest index at which something is wrong: how a scan from below comes to it, and what it means that there is none.
-use Rattle.std.proofs.Common.{◌≡◌, ℕ, zero, suc, ◌+◌, ◌<◌, Bool, true, false, cond, ◌||◌, Some, None, Option, sym, refl, ap, ◌∙◌, subst, ⊎_elim, add-one, arith}
+use Rattle.std.proofs.Common.{◌≡◌, ℕ, zero, suc, ◌+◌, ◌<◌, Bool, true, false, cond, ◌||◌, is_some, Some, None, Option, sym, refl, ap, ◌∙◌, subst, ⊎_elim, add-one, arith}
 use Rattle.std.proofs.lemmas.Bool.{cases_eq}
 use Rattle.net.specs.Lowest.{or_else, lowest, unless, some_below, nothing_wrong}
 
+no_some : {F : Type 0} (x : F) → Some x ≡ None → ⊥
+no_some x e = cc
+
 pub or_else_none : {F : Type 0} (a b : Option F) → or_else a b ≡ None → (a ≡ None) × (b ≡ None)
-or_else_none (Some x) b e = cc
+or_else_none (Some x) b e = absurd (no_some x e)
 or_else_none None b e = (refl, e)
 
 pub both_none : {F : Type 0} (a b : Option F) → a ≡ None → b ≡ None → or_else a b ≡ None
@@ -12,7 +15,7 @@ both_none a b e f = ap (λ (o : Option _). or_else o b) e ∙ f
 
 pub unless_none : {F : Type 0} (b : Bool) (f : F) → unless b f ≡ None → b ≡ true
 unless_none true f e = refl
-unless_none false f e = cc
+unless_none false f e = absurd (no_some f e)
 
 pub unless_clear : {F : Type 0} (b : Bool) (f : F) → b ≡ true → unless b f ≡ None
 unless_clear b f e = ap (λ (x : Bool). cond x None (Some f)) e
@@ -48,6 +51,15 @@ module _ {F : Type 0} (f : ℕ → Option F) where
     where
       earlier : (i ≡ n → ⊥) → i < n
       earlier d = grind (arith, d)
+
+  -- the same, of an answer that was tested
+  pub lowest_some : (i n : ℕ) (o : Option F) → lowest f i ≡ None → o ≡ f i → is_some o ≡ true → i < n → o ≡ lowest f n
+  lowest_some i n (Some x) e h s l = sym (lowest_found i n x e (sym h) l)
+  lowest_some i n None e h s l = cc
+
+pub none_since : {F : Type 0} (o : Option F) → is_some o ≡ false → o ≡ None
+none_since (Some x) e = cc
+none_since None e = refl
 
 module _ (q : ℕ → Bool) where
   pub some_below_none : (n : ℕ) → some_below q n ≡ false → (i : ℕ) → i < n → q i ≡ false

@@ -9,7 +9,7 @@ use Rattle.net.specs.declared.records.record.Record.{Record}
 use Rattle.net.specs.declared.records.Route.{Route}
 use Rattle.net.specs.Checked.{records_of}
 use Rattle.net.specs.Proper.{Proper}
-use Rattle.net.specs.Routes.{parent_of, is_child}
+use Rattle.net.specs.Routes.{parent_of, is_child, is_route}
 use Rattle.net.proofs.Properly.{proper}
 use Rattle.length_rule.specs.Children.{indices, sum_over}
 use Rattle.length_rule.specs.Lengths.{hanging_in, hanging}
@@ -17,6 +17,10 @@ use Rattle.length_rule.specs.Marks.{head_at, trunk_at}
 use Rattle.length_rule.proofs.Sums.{sum_kept, sum_none, sum_from, from_first, from_later}
 use Rattle.length_rule.proofs.Unique.{child_later, the_rule}
 use Rattle.plan.specs.Walk.{adds, Walked}
+
+-- the grid and the records of a checked route
+pub routed : (r : Route) (g : Grid) (rs : List Record) → g ≡ r.grid → rs ≡ records_of r → is_route g rs ≡ true
+routed r g rs e f = (λ i. is_route (e i) (f i)) ∙ r.checked
 
 -- a term is no more than the sum
 pub term_at_most : (f : ℕ → ℕ) (n p : ℕ) → p < n → f p ≤ sum_over (indices n) f

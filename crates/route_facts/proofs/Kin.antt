@@ -1,5 +1,5 @@
 -- An index has at most four children, and at most three past the driver: each stands in another neighbour of its tile.
-use Rattle.std.proofs.Common.{◌≡◌, ℕ, zero, suc, ◌+◌, ◌-◌, ◌<◌, ◌≤◌, Bool, true, false, cond, ◌&&◌, eqb, ltb, List, [], ◌∷◌, length, get_or, take, drop, count_by, sym, refl, ap, ◌∙◌, subst, ⊎_elim, arith}
+use Rattle.std.proofs.Common.{◌≡◌, ℕ, zero, suc, ◌+◌, ◌-◌, ◌<◌, ◌≤◌, Bool, true, false, cond, ◌&&◌, eqb, ltb, List, [], ◌∷◌, length, get_or, take, drop, count_by, sym, refl, ap, ◌∙◌, subst, ⊎_elim, add-one, arith}
 use Rattle.std.proofs.lemmas.Bool.{and_parts, ltb-true, lt-ltb, eqb-true, eq-eqb, ne_eqb, cases_Bool}
 use Rattle.std.specs.List.{filter}
 use Rattle.std.proofs.lemmas.List.{length-drop, take_all, drop_all}
@@ -159,8 +159,24 @@ module _ (g : Grid) (rs : List Record) (p : Proper g rs) (i : ℕ) (h : i < leng
       go k l false true e f = omega (arith, near_turned k l (subst (λ (j : ℕ). neighbours g (tile_of rs i) (tile_of rs j) ≡ true) (sym (eqb-true k (parent_of rs i) f)) (p.beside i pos h)))
       go k l false false e f = omega arith
 
-pub few_children : (r : Route) → FewChildren (records_of r)
-few_children r i h = (children_near r.grid (records_of r) (proper r) i h, past_driver r.grid (records_of r) (proper r) i h)
+pub few_children : (g : Grid) (rs : List Record) → Proper g rs → FewChildren rs
+few_children g rs p i h = (children_near g rs p i h, past_driver g rs p i h)
+
+pub few_children_of : (r : Route) → FewChildren (records_of r)
+few_children_of r = few_children r.grid (records_of r) (proper r)
+
+-- one index more
+pub kept_more : (rs : List Record) (i k n : ℕ) (b : Bool) → 0 < k → eqb (parent_of rs k) i ≡ b → n ≡ length (kept (is_child rs i) (indices k)) → one_if b + n ≡ length (kept (is_child rs i) (indices (k + 1)))
+kept_more rs i k n b pos e f =
+    let child : is_child rs i k ≡ b = ap (λ (x : Bool). x && eqb (parent_of rs k) i) (lt-ltb 0 k pos) ∙ e in
+    subst (λ (m : ℕ). one_if b + n ≡ length (kept (is_child rs i) (indices m))) (sym (add-one k)) (go b child)
+  where
+    go : (c : Bool) → is_child rs i k ≡ c → one_if c + n ≡ length (cond (is_child rs i k) (k ∷ kept (is_child rs i) (indices k)) (kept (is_child rs i) (indices k)))
+    go c d = subst (λ (x : Bool). one_if c + n ≡ length (cond x (k ∷ kept (is_child rs i) (indices k)) (kept (is_child rs i) (indices k)))) (sym d) (at c)
+      where
+        at : (c : Bool) → one_if c + n ≡ length (cond c (k ∷ kept (is_child rs i) (indices k)) (kept (is_child rs i) (indices k)))
+        at true = omega (arith, f)
+        at false = omega (arith, f)
 
 -- the records from s on that name this parent
 named_from : (rs : List Record) (i c s : ℕ) → s + c ≡ length rs → 0 < s → length (filter (λ (r : Record). eqb r.parent i) (drop s rs)) ≡ sum_from c s (λ k. one_if (is_child rs i k))

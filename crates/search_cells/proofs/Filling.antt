@@ -18,10 +18,9 @@ use Rattle.search_theory.proofs.Best.{cheaper_each, cheapest_each}
 use Rattle.search_theory.proofs.Rebuild.{length_map}
 
 module _ {C V : Type 0} (o : Kind C) (held : V → C) where
-  -- where all is cleared and the first cell written, nothing hangs yet
-  pub cleared : (cur : List (Option (Kept V Chosen))) (w : ℕ) (v : Option (Kept V Chosen)) → as_joined held v ≡ Some (record { cost = o.nothing; what = [] }) → 0 < length cur
-      → ((k : ℕ) → get_or cur k None ≡ None) → (h j : ℕ) → j < w → table_of held (set cur 0 v) w h j ≡ start o h j
-  cleared cur w v is within none h j b = go (eq-or-lt_of_le zero-le) (eq-or-lt_of_le zero-le)
+  cleared_at : (cur : List (Option (Kept V Chosen))) (w : ℕ) (v : Option (Kept V Chosen)) → as_joined held v ≡ Some (record { cost = o.nothing; what = [] }) → 0 < length cur
+      → (h j : ℕ) → get_or cur (h * w + j) None ≡ None → j < w → table_of held (set cur 0 v) w h j ≡ start o h j
+  cleared_at cur w v is within h j none b = go (eq-or-lt_of_le zero-le) (eq-or-lt_of_le zero-le)
     where
       first : Option (Priced C (List Branch))
       first = Some (record { cost = o.nothing; what = [] })
@@ -29,7 +28,7 @@ module _ {C V : Type 0} (o : Kind C) (held : V → C) where
       other : 0 < h * w + j → (eqb h 0 && eqb j 0) ≡ false → table_of held (set cur 0 v) w h j ≡ start o h j
       other p q =
           let ne : h * w + j ≢ 0 = omega arith in
-          ap (as_joined held) (get_or-set_other cur 0 (h * w + j) v None ne ∙ none (h * w + j)) ∙ sym (ap (λ b. cond b first None) q)
+          ap (as_joined held) (get_or-set_other cur 0 (h * w + j) v None ne ∙ none) ∙ sym (ap (λ b. cond b first None) q)
 
       go : (0 ≡ h) ⊎ (0 < h) → (0 ≡ j) ⊎ (0 < j) → table_of held (set cur 0 v) w h j ≡ start o h j
       go (inl e) (inl f) =
@@ -40,6 +39,16 @@ module _ {C V : Type 0} (o : Kind C) (held : V → C) where
           ap (λ i. as_joined held (get_or (set cur 0 v) i None)) eq ∙ ap (as_joined held) (get_or-set_same cur 0 v None within) ∙ is ∙ sym (ap (λ b. cond b first None) q)
       go (inl e) (inr l) = other (omega arith) (grind (arith, nat_tests))
       go (inr l) d = other (omega (arith, rows_apart 0 h w l)) (grind (arith, nat_tests))
+
+  -- where all is cleared and the first cell written, nothing hangs yet
+  pub cleared : (cur : List (Option (Kept V Chosen))) (w : ℕ) (v : Option (Kept V Chosen)) → as_joined held v ≡ Some (record { cost = o.nothing; what = [] }) → 0 < length cur
+      → ((k : ℕ) → get_or cur k None ≡ None) → (h j : ℕ) → j < w → table_of held (set cur 0 v) w h j ≡ start o h j
+  cleared cur w v is within none h j b = cleared_at cur w v is within h j (none (h * w + j)) b
+
+  -- the same, of the five rows of a table alone
+  pub cleared_rows : (cur : List (Option (Kept V Chosen))) (w : ℕ) (v : Option (Kept V Chosen)) → as_joined held v ≡ Some (record { cost = o.nothing; what = [] }) → 0 < length cur
+      → ((k : ℕ) → k < 5 * w → get_or cur k None ≡ None) → (h j : ℕ) → h < 5 → j < w → table_of held (set cur 0 v) w h j ≡ start o h j
+  cleared_rows cur w v is within none h j a b = cleared_at cur w v is within h j (none (h * w + j) (omega (arith, rows_apart h 5 w a))) b
 
   -- a cell that has a leg for each of fewer than four children has room
   pub has_room : (cell : Option (Kept V Chosen)) (n : ℕ) (x : Option (Priced C (List Branch))) → as_joined held cell ≡ x → Each (λ a. length a.what ≡ n) x → n < 4 → HasRoom cell

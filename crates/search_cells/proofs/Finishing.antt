@@ -68,3 +68,7 @@ module _ {C : Type 0} (o : Kind C) (limit : ℕ) (free : Bool) (spare : ℕ) (p 
       ∙ ap (λ a. cond (leb e limit) (cheaper o (plain o spare u e) (cond (free && eqb e 0) a None)) None)
       (ap (chosen true) (cheapest_same o spare (λ h. charged o (p h) (cheapest o (suc limit) (λ j. t h j))) (λ h. charged o (p h) (cheapest o (suc limit) (λ j. u h j)))
       (λ h d. ap (charged o (p h)) (cheapest_same o (suc limit) (t h) (u h) (λ j b. same h j (omega arith))))))
+
+pub plain_same : {C : Type 0} (o : Kind C) (t u : Table C) (spare e : ℕ) → ((h : ℕ) → t h e ≡ u h e) → plain o spare (five_rows t) e ≡ plain o spare (five_rows u) e
+plain_same o t u spare e same =
+    ap (chosen false) (cheapest_same o (suc spare) (λ h. five_rows t h e) (λ h. five_rows u h e) (λ h d. ap (λ x. cond (ltb h 5) x None) (same h)))

@@ -5,18 +5,23 @@ use Rattle.search_cells.specs.Cells.{as_joined, as_chosen, row_in, line_in, tabl
 use Rattle.search_cells.specs.declared.Chosen.{Chosen}
 use Rattle.search_cells.specs.declared.Priced.{Priced as Kept}
 use Rattle.search_theory.specs.Costs.{Kind}
-use Rattle.search_theory.specs.Entries.{Priced, Row, cheaper}
+use Rattle.search_theory.specs.Entries.{Priced, Row, cheaper, cheapest}
 use Rattle.search_theory.specs.Joining.{Branch, Choice, tagged, join, charged, best_entry, step, Table}
 use Rattle.search_cells.proofs.Parts.{next_row, last_row, no_last_row}
 use Rattle.search_cells.proofs.Turns.{cheapest_same}
+
+module _ {C X : Type 0} (o : Kind C) (own own' : ℕ → Option (Priced C (List Branch))) (r r' : Row C X) where
+  pub hung_same : (j : ℕ) → ((k : ℕ) → k < j → own k ≡ own' k) → ((k : ℕ) → k < j → r k ≡ r' k)
+      → cheapest o j (λ e. join o false (own (j - suc e)) (tagged e (r e))) ≡ cheapest o j (λ e. join o false (own' (j - suc e)) (tagged e (r' e)))
+  hung_same j a b =
+      cheapest_same o j (λ e. join o false (own (j - suc e)) (tagged e (r e))) (λ e. join o false (own' (j - suc e)) (tagged e (r' e)))
+      (λ e l. ap (λ x. join o false x (tagged e (r e))) (a (j - suc e) (omega arith)) ∙ ap (λ x. join o false (own' (j - suc e)) (tagged e x)) (b e l))
 
 module _ {C X : Type 0} (o : Kind C) (price : C) (own own' : ℕ → Option (Priced C (List Branch))) (r r' : Row C X) (low low' : ℕ → Option (Priced C (List Branch))) (first : Option (Priced C ℕ)) where
   -- a cell that is joined reads nothing that is written after it
   pub joined_row_same : (j : ℕ) → ((k : ℕ) → k < j → own k ≡ own' k) → ((k : ℕ) → k < j → r k ≡ r' k) → low j ≡ low' j → joined_row o price own r low first j ≡ joined_row o price own' r' low' first j
   joined_row_same j a b c =
-      ap (λ x. cheaper o x (charged o price (join o true (low j) first)))
-      (cheapest_same o j (λ e. join o false (own (j - suc e)) (tagged e (r e))) (λ e. join o false (own' (j - suc e)) (tagged e (r' e)))
-      (λ e l. ap (λ x. join o false x (tagged e (r e))) (a (j - suc e) (omega arith)) ∙ ap (λ x. join o false (own' (j - suc e)) (tagged e x)) (b e l)))
+      ap (λ x. cheaper o x (charged o price (join o true (low j) first))) (hung_same o own own' r r' j a b)
       ∙ ap (λ x. joined_row o price own' r' (λ _. x) first j) c
 
 -- what holds of the first holds of each below 1
@@ -25,6 +30,13 @@ first_only P h zero l = h
 first_only P h (suc k) l = absurd (omega arith)
 
 module _ {X : Type 0} (d : X) where
+  -- a write at i leaves what lies before, and after
+  pub kept_before : (cur old : List X) (i : ℕ) (v : X) (n : ℕ) → n ≤ i → ((k : ℕ) → k < n → get_or cur k d ≡ get_or old k d) → (k : ℕ) → k < n → get_or (set cur i v) k d ≡ get_or old k d
+  kept_before cur old i v n m h k l = let ne : k ≢ i = omega arith in get_or-set_other cur i k v d ne ∙ h k l
+
+  pub kept_after : (cur old : List X) (i : ℕ) (v : X) (n : ℕ) → i ≤ n → ((k : ℕ) → n < k → get_or cur k d ≡ get_or old k d) → (k : ℕ) → n < k → get_or (set cur i v) k d ≡ get_or old k d
+  kept_after cur old i v n m h k l = let ne : k ≢ i = omega arith in get_or-set_other cur i k v d ne ∙ h k l
+
   -- a row that is written from its start
   pub forth_more : {Y : Type 0} (f : X → Y) (want : ℕ → Y) (cur : List X) (j : ℕ) (v : X) → j < length cur → f v ≡ want j → ((k : ℕ) → k < j → f (get_or cur k d) ≡ want k) → (k : ℕ) → k < j + 1 → f (get_or (set cur j v) k d) ≡ want k
   forth_more f want cur j v within is h k a = go (eq-or-lt_of_le b)
@@ -36,6 +48,19 @@ module _ {X : Type 0} (d : X) where
       go (inl e) = subst (λ k. f (get_or (set cur j v) k d) ≡ want k) (sym e) (ap f (get_or-set_same cur j v d within) ∙ is)
       go (inr l) = let ne : k ≢ j = omega arith in ap f (get_or-set_other cur j k v d ne) ∙ h k l
 
+  -- a row that is written from its start, where it begins at `at`
+  pub forth_more_at : {Y : Type 0} (f : X → Y) (want : ℕ → Y) (cur : List X) (at j : ℕ) (v : X) → at + j < length cur → f v ≡ want j
+      → ((k : ℕ) → k < j → f (get_or cur (at + k) d) ≡ want k) → (k : ℕ) → k < j + 1 → f (get_or (set cur (at + j) v) (at + k) d) ≡ want k
+  forth_more_at f want cur at j v within is h k a = go (eq-or-lt_of_le b)
+    where
+      b : k ≤ j
+      b = omega arith
+
+      go : (k ≡ j) ⊎ (k < j) → f (get_or (set cur (at + j) v) (at + k) d) ≡ want k
+      go (inl e) = subst (λ k. f (get_or (set cur (at + j) v) (at + k) d) ≡ want k) (sym e) (ap f (get_or-set_same cur (at + j) v d within) ∙ is)
+      go (inr l) = let ne : at + k ≢ at + j = omega arith in ap f (get_or-set_other cur (at + j) (at + k) v d ne) ∙ h k l
+
+  -- a list that is written from its start
   pub set_more : (want : ℕ → X) (cur : List X) (j : ℕ) (v : X) → j < length cur → v ≡ want j → ((k : ℕ) → k < j → get_or cur k d ≡ want k) → (k : ℕ) → k < j + 1 → get_or (set cur j v) k d ≡ want k
   set_more = forth_more (λ x. x)
 
@@ -47,6 +72,15 @@ module _ {X : Type 0} (d : X) where
       go : (j ≡ k) ⊎ (j < k) → f (get_or (set cur j v) k d) ≡ want k
       go (inl e) = subst (λ k. f (get_or (set cur j v) k d) ≡ want k) e (ap f (get_or-set_same cur j v d within) ∙ is)
       go (inr l) = let ne : k ≢ j = omega arith in ap f (get_or-set_other cur j k v d ne) ∙ h k (omega arith) b
+
+  -- a row that is written from its end, where it begins at `at`
+  pub back_more_at : {Y : Type 0} (f : X → Y) (want : ℕ → Y) (cur : List X) (at j n : ℕ) (v : X) → at + j < length cur → f v ≡ want j
+      → ((k : ℕ) → suc j ≤ k → k ≤ n → f (get_or cur (at + k) d) ≡ want k) → (k : ℕ) → j ≤ k → k ≤ n → f (get_or (set cur (at + j) v) (at + k) d) ≡ want k
+  back_more_at f want cur at j n v within is h k a b = go (eq-or-lt_of_le a)
+    where
+      go : (j ≡ k) ⊎ (j < k) → f (get_or (set cur (at + j) v) (at + k) d) ≡ want k
+      go (inl e) = subst (λ k. f (get_or (set cur (at + j) v) (at + k) d) ≡ want k) e (ap f (get_or-set_same cur (at + j) v d within) ∙ is)
+      go (inr l) = let ne : at + k ≢ at + j = omega arith in ap f (get_or-set_other cur (at + j) (at + k) v d ne) ∙ h k (omega arith) b
 
 -- the row with one head buffer less is the one before, and there is none before the first
 module _ {C : Type 0} (o : Kind C) (limit : ℕ) (price : C) (p : ℕ → C) (t : Table C) (r : Row C Choice) (low : ℕ → Option (Priced C (List Branch))) where

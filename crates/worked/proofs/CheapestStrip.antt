@@ -1,7 +1,8 @@
 -- The cheapest plan of the worked strip: the search finds the cost, and what it finds is cheapest.
-use Rattle.std.proofs.Common.{◌≡◌, ℕ, List, [], ◌∷◌, Some, None, Option, refl, subst, inl, inr, add_assoc, add_comm, zero-add, arith}
+use Rattle.std.proofs.Common.{◌≡◌, ℕ, ◌<◌, List, [], ◌∷◌, Some, None, Option, refl, subst, inl, inr, add_assoc, add_comm, zero-add, arith}
 use Rattle.std.proofs.lemmas.Bool.Decides.{nat_tests, leb_tells}
 use Rattle.net.specs.Proper.{Proper}
+use Rattle.net.specs.Routes.{parent_of}
 use Rattle.net.specs.declared.records.record.Record.{Record}
 use Rattle.net.proofs.Properly.{proper_if}
 use Rattle.search_theory.specs.Costs.{Lawful}
@@ -34,6 +35,9 @@ found_cheapest limit rs spare prices n (Some a) h e = (a.what, subst (λ c. Chea
 pub path_proper : Proper long_strip path
 path_proper = proper_if long_strip path refl
 
+path_hangs : (i : ℕ) → 0 < i → i < 8 → parent_of path i < i
+path_hangs = path_proper.earlier
+
 abbrev spares : List ℕ
 spares = 0 ∷ 1 ∷ 1 ∷ 1 ∷ 0 ∷ 1 ∷ 0 ∷ 0 ∷ []
 
@@ -43,4 +47,4 @@ offers = None ∷ Some 1300 ∷ Some 8600 ∷ Some 500 ∷ None ∷ Some 1000 �
 pub path_cheapest : (marks : List ℕ) × Cheapest sums 3 path spares offers 1500 marks
 path_cheapest =
     found_cheapest 3 path spares offers 1500 (chosen sums 3 path spares offers)
-    (chosen_best sums_lawful 3 path spares offers (record { some = path_proper.some; earlier = path_proper.earlier })) refl
+    (chosen_best sums_lawful 3 path spares offers (record { some = path_proper.some; earlier = path_hangs })) refl

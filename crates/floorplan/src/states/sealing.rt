@@ -20,7 +20,7 @@ impl Floorplan<Entering> {
             grid: self.grid,
             places: self.places,
             entered: self.entered,
-            state: Sealed,
+            state: Sealed { made: () },
         }
     }
 }
