@@ -1,7 +1,7 @@
 // Searches some hundred small nets in several kinds of cost and compares each answer with trying every plan there is. It
 // says how many answers were compared and how many differed. Its contracts say what the plan of each code, the cheapest
 // of them all, each verdict and the whole tally are; nothing is promised of what is printed. It uses the search, the check
-// of a plan made by hand, the cost of a plan, the kinds of cost and the generic choice of the cheaper of two costs.
+// of a plan made by hand, the cost of a plan and the kinds of cost.
 #![tactic(auto)]
 
 mod comparing;
@@ -11,7 +11,7 @@ mod tallying;
 mod trying;
 
 use congestion::Congestion;
-use cost::{Pair, Pricing};
+use cost::{Cost, Pair, Pricing};
 use count::Count;
 use crowds::CROWDS;
 use grid::shape::Grid;
@@ -25,31 +25,45 @@ use worst_tile::WorstTile;
 // The work cells that the search of any shape needs at the largest limit that is tried.
 const CELLS: usize = (RECORDS + SPARE_ROWS) * (LIMITS + 1);
 
-// What one kind of cost gives.
-fn print_kind<P: Pricing>(rt: &HostRuntime, kind: &str, grid: Grid) -> io::Result<()> {
-    // Vectors, since of an array of a type parameter it stays open that it has fewer than 2^63 bytes.
-    let mut prices: Vec<Option<P>> = vec![in rt.alloc(); None; RECORDS]?;
-    let mut cells: Vec<Option<Entry<P::Cell>>> = vec![in rt.alloc(); None; CELLS]?;
+// What one kind of cost gives, with these places for prices and these cells.
+fn print_kind<P: Pricing>(
+    rt: &HostRuntime,
+    kind: &str,
+    grid: Grid,
+    prices: &mut [Option<P>],
+    cells: &mut [Option<Entry<P::Cell>>],
+) -> io::Result<()> {
     let Tally {
         compared,
         plans,
         different,
-    } = tried(grid, &SHAPES, &CROWDS, &mut prices, &mut cells);
+    } = tried(grid, &SHAPES, &CROWDS, prices, cells);
     println!(rt; "{kind}: {compared} answers, {plans} plans, {different} different")
+}
+
+// The same, with arrays of its own. A macro makes them where the kind is known, since of an array of a type parameter it
+// stays open that it has fewer than 2^63 bytes.
+macro_rules! print_kind {
+    ($rt:expr, $name:literal, $grid:expr, $kind:ty) => {{
+        let mut prices: [Option<$kind>; RECORDS] = [None; RECORDS];
+        let mut cells: [Option<Entry<<$kind as Cost>::Cell>>; CELLS] = [None; CELLS];
+        print_kind::<$kind>($rt, $name, $grid, &mut prices, &mut cells)
+    }};
 }
 
 fn main(rt: HostRuntime) -> io::Result<()> {
     let Ok(grid) = Grid::new(5, 5) else {
         return println!(rt; "no grid");
     };
-    print_kind::<Count>(&rt, "count", grid)?;
-    print_kind::<Congestion>(&rt, "congestion", grid)?;
-    print_kind::<WorstTile>(&rt, "worst tile", grid)?;
-    print_kind::<Pair<Count, Congestion>>(&rt, "count, then congestion", grid)?;
-    print_kind::<Pair<Congestion, WorstTile>>(&rt, "congestion, then worst tile", grid)?;
-    print_kind::<Pair<Count, Pair<Congestion, WorstTile>>>(
+    print_kind!(&rt, "count", grid, Count)?;
+    print_kind!(&rt, "congestion", grid, Congestion)?;
+    print_kind!(&rt, "worst tile", grid, WorstTile)?;
+    print_kind!(&rt, "count, then congestion", grid, Pair<Count, Congestion>)?;
+    print_kind!(&rt, "congestion, then worst tile", grid, Pair<Congestion, WorstTile>)?;
+    print_kind!(
         &rt,
         "count, then congestion, then worst tile",
         grid,
+        Pair<Count, Pair<Congestion, WorstTile>>
     )
 }

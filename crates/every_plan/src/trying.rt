@@ -4,10 +4,9 @@ ghost use Rattle.search_theory.specs.Costs.{kind_of};
 ghost use Rattle.every_plan.specs.Codes.{mark_of, marks_of, plans};
 ghost use Rattle.every_plan.specs.Nets.{net_of};
 ghost use Rattle.every_plan.specs.Shapes.{shape_room};
-ghost use Rattle.every_plan.specs.Trying.{accepted_cost, cost_of_code, by_trying};
+ghost use Rattle.every_plan.specs.Trying.{lower, accepted_cost, cost_of_code, by_trying};
 
 use crate::shapes::RECORDS;
-use any_kind::work::cheaper;
 use cost::Cost;
 use hand_plan::check_plan;
 use net::limit::Limit;
@@ -54,6 +53,13 @@ fn plans(records: usize) -> usize
     }
 }
 
+// The lower of two costs, the first where they tie.
+fn lower<P: Cost>(x: P, y: P) -> P
+    ensures { result ≡ lower P.Cost.at_most x y }
+{
+    if x.at_most(y) { x } else { y }
+}
+
 impl<'a, P: Cost> Case<'a, P> {
     // How many of a shape's marks the route has use for.
     pub(crate) fn places(&self) -> usize
@@ -84,6 +90,6 @@ impl<'a, P: Cost> Case<'a, P> {
     {
         (0..plans(self.route.records().len()))
             .filter_map(|code| self.cost_of_code(limit, code))
-            .reduce(cheaper)
+            .reduce(lower)
     }
 }

@@ -99,7 +99,7 @@ fn print_nets(rt: &HostRuntime, times: Option<u32>) -> io::Result<()> {
     };
     print_net(rt, "strip", grid, &strip(), times)?;
     print_net(rt, "comb", grid, &comb(), times)?;
-    print_net(rt, "tree", grid, tree(grid).as_slice(), times)
+    print_net(rt, "tree", grid, &tree(grid), times)
 }
 
 fn main(rt: HostRuntime) -> io::Result<()> {

@@ -1,5 +1,5 @@
 // A net that is grown at random: tile by tile, each beside one that stands.
-ghost use Rattle.std.specs.Prelude.{◌≡◌};
+ghost use Rattle.std.specs.Prelude.{◌≡◌, take};
 ghost use Rattle.search_speed.specs.Tree.{next_dice, tile_beside, stands, sprout, standing, standing_after, grown};
 
 use crate::patterns::RECORDS;
@@ -77,20 +77,25 @@ fn grow(grid: Grid, records: &mut ArrayVec<Record, RECORDS>, dice: u32)
     }
 }
 
-// The records of the tree after all the throws, its driver in the middle of a grid of 64 rows and columns.
-pub fn tree(grid: Grid) -> ArrayVec<Record, RECORDS>
-    ensures { result.items ≡ standing (grown grid 8192) }
+// The records of the tree after all the throws, its driver in the middle of a grid of 64 rows and columns. Where fewer
+// stand than there are places, the driver's record is in those behind them.
+pub fn tree(grid: Grid) -> [Record; RECORDS]
+    ensures table { result ≡ (grown grid 8192).records }
+    ensures standing { take (grown grid 8192).count result ≡ standing (grown grid 8192) }
 {
-    let mut records = ArrayVec::new();
-    records.push(Record {
+    let driver = Record {
         tile: 2080,
         parent: 0,
         sink: true,
-    });
+    };
+    let mut records = ArrayVec::new();
+    records.push(driver);
     let mut dice = 1;
     for _throw in 0..THROWS {
         dice = next_dice(dice);
         grow(grid, &mut records, dice);
     }
-    records
+    let mut table = [driver; RECORDS];
+    table[..records.len()].copy_from_slice(records.as_slice());
+    table
 }
