@@ -19,8 +19,10 @@ loop-index-preserved g c =
     let i = c.loop-index.index in
     let here : i < length rs = omega (arith, c.loop-index-test.true, ap length c.records.ensures, length-take (length c.records.result.now) c.needs-needed.result) in
     let told : c.flatten-price.result ≡ price_at c.args.prices.now i = c.flatten-price.ensures ∙ (flat c.copied.result ∙ (ap (λ (o : Option _). unwrap_or o None) c.copied.ensures ∙ c.get.ensures.lookup.4 (omega arith) None)) in
-    let sites : c.from.result ≡ need rs c.args.marks.now i =
-    c.from.ensures ∙ (get_or-take (length c.records.result.now) c.needs-needed.result i 0 (omega (arith, here, ap length c.records.ensures)) ∙ need_told r c.args.marks.now c.needs-needed.result i here c.needs-needed.ensures.answer) in
+    let read = c.from.ensures in
+    let within = get_or-take (length c.records.result.now) c.needs-needed.result i 0 (omega (arith, here, ap length c.records.ensures)) in
+    let told_need = need_told r c.args.marks.now c.needs-needed.result i here c.needs-needed.ensures.answer in
+    let sites : c.from.result ≡ need rs c.args.marks.now i = cc in
     c.plus-sum.ensures
     ∙ ((λ k. m.plus ((c.tile_cost.ensures ∙ (λ j. tile_cost m.nothing m.plus (told j) (sites j))) k) (c.loop-index.invariant k))
     ∙ ap (cost_below m.nothing m.plus rs c.args.prices.now c.args.marks.now) (sym (add-one i)))
