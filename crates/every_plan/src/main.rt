@@ -42,7 +42,7 @@ fn print_kind<P: Pricing>(
 }
 
 // The same, with arrays of its own. A macro makes them where the kind is known, since of an array of a type parameter it
-// stays open that it has fewer than 2^63 bytes.
+// stays open that it has fewer than 2^63 bytes. Each kind has a function, since in one all the arrays would stand at once.
 macro_rules! print_kind {
     ($rt:expr, $name:literal, $grid:expr, $kind:ty) => {{
         let mut prices: [Option<$kind>; RECORDS] = [None; RECORDS];
@@ -51,19 +51,38 @@ macro_rules! print_kind {
     }};
 }
 
+fn print_count(rt: &HostRuntime, grid: Grid) -> io::Result<()> {
+    print_kind!(rt, "count", grid, Count)
+}
+
+fn print_congestion(rt: &HostRuntime, grid: Grid) -> io::Result<()> {
+    print_kind!(rt, "congestion", grid, Congestion)
+}
+
+fn print_worst_tile(rt: &HostRuntime, grid: Grid) -> io::Result<()> {
+    print_kind!(rt, "worst tile", grid, WorstTile)
+}
+
+fn print_count_then_congestion(rt: &HostRuntime, grid: Grid) -> io::Result<()> {
+    print_kind!(rt, "count, then congestion", grid, Pair<Count, Congestion>)
+}
+
+fn print_congestion_then_worst_tile(rt: &HostRuntime, grid: Grid) -> io::Result<()> {
+    print_kind!(rt, "congestion, then worst tile", grid, Pair<Congestion, WorstTile>)
+}
+
+fn print_count_then_congestion_then_worst_tile(rt: &HostRuntime, grid: Grid) -> io::Result<()> {
+    print_kind!(rt, "count, then congestion, then worst tile", grid, Pair<Count, Pair<Congestion, WorstTile>>)
+}
+
 fn main(rt: HostRuntime) -> io::Result<()> {
     let Ok(grid) = Grid::new(5, 5) else {
         return println!(rt; "no grid");
     };
-    print_kind!(&rt, "count", grid, Count)?;
-    print_kind!(&rt, "congestion", grid, Congestion)?;
-    print_kind!(&rt, "worst tile", grid, WorstTile)?;
-    print_kind!(&rt, "count, then congestion", grid, Pair<Count, Congestion>)?;
-    print_kind!(&rt, "congestion, then worst tile", grid, Pair<Congestion, WorstTile>)?;
-    print_kind!(
-        &rt,
-        "count, then congestion, then worst tile",
-        grid,
-        Pair<Count, Pair<Congestion, WorstTile>>
-    )
+    print_count(&rt, grid)?;
+    print_congestion(&rt, grid)?;
+    print_worst_tile(&rt, grid)?;
+    print_count_then_congestion(&rt, grid)?;
+    print_congestion_then_worst_tile(&rt, grid)?;
+    print_count_then_congestion_then_worst_tile(&rt, grid)
 }
