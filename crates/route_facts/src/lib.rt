@@ -3,7 +3,7 @@
 // driver through earlier indices. The crate uses the grid, nets and the children of an index.
 #![tactic(auto)]
 
-ghost use Rattle.std.specs.Prelude.{◌≡◌, ◌==◌, count_by};
+ghost use Rattle.std.specs.Prelude.{◌≡◌, ◌==◌, ◌<◌, length, count_by};
 ghost use Rattle.net.specs.Checked.{records_of};
 ghost use Rattle.route_facts.specs.Facts.{crossing, CrossesEach, CrossingsApart, child_count, FewChildren, parent_told, LeadsBackEach};
 
@@ -35,12 +35,13 @@ pub fn crossing(route: &Route, index: usize) -> Option<usize>
 
 // How many of these records hang from this index.
 fn hanging_from(records: &[Record], index: usize) -> usize
+    requires { length records.now < 256 }
     ensures { result ≡ count_by (λ r. r.parent == index) records.now }
 {
     records
         .iter()
-        .filter(|record| usize::from(record.parent) == index)
-        .count()
+        .map(|record| usize::from(usize::from(record.parent) == index))
+        .sum()
 }
 
 // How many children this index has. Index 0 names itself, and is nobody's child.
